@@ -1,0 +1,7 @@
+pub mod Cramer
+pub mod Extremes
+pub mod Normal
+pub mod Order
+pub mod Poly
+pub mod Quotients
+pub mod Sums

@@ -1,0 +1,10 @@
+pub mod Average
+pub mod Cramer
+pub mod Extremes
+pub mod Normal
+pub mod Poly
+pub mod Quotients
+pub mod Rounding
+pub mod Sides
+pub mod Sums
+pub mod Values
