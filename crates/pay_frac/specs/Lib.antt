@@ -1,0 +1,5 @@
+pub mod Pair
+pub mod Ratio
+pub mod Reading
+pub mod Spelling
+pub mod Whole
