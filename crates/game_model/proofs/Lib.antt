@@ -1,0 +1,5 @@
+pub mod Faults
+pub mod Lists
+pub mod Multiples
+pub mod Profiles
+pub mod WorkedRows

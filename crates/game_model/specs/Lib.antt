@@ -1,0 +1,4 @@
+pub mod Game
+pub mod Parts
+pub mod SelfGeneration
+pub mod Worked

@@ -1,0 +1,11 @@
+//! The game as numbers, and what self-generation means.
+#![tactic(auto)]
+
+mod game;
+mod list;
+mod parts;
+pub mod worked;
+
+pub use game::Game;
+pub use list::List;
+pub use parts::{GameParts, ShapeFault, ShapeWhat};
