@@ -1,0 +1,4 @@
+pub mod Hull
+pub mod Answer
+pub mod Cone
+pub mod LowestTerms
