@@ -1,0 +1,9 @@
+pub mod Iterates
+pub mod Levels
+pub mod Notes
+pub mod Operator
+pub mod Problem
+pub mod Start
+pub mod Supported
+pub mod Tables
+pub mod Worked

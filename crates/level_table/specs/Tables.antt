@@ -1,0 +1,43 @@
+-- Tables and levels as they are kept, and what `opening` answers.
+use Rattle.std.specs.Prelude.{◌≡◌, ℕ, ◌*◌, ◌^◌, ◌<◌, ◌≤◌, length, ℤ, pos, ◌+ℤ◌, unsigned_abs}
+use Rattle.level_table.specs.declared.level.Level.{Level}
+use Rattle.level_table.specs.declared.level.Level.TheVariants.{Empty, At}
+use Rattle.direction_set.specs.DirectionTable.{DirectionTable}
+use Rattle.game_model.specs.Game.{DynamicGame}
+use Rattle.level_table.specs.Problem.{Problem, direction_count, opening_level}
+use Rattle.level_table.specs.Levels.{Table, IsTableOf, IsRow, IsSmall, level_at, levels_in, opening_table}
+
+-- The word that keeps a level: 0 for Empty, and x + 2^62 for the number x.
+abbrev pub word_at : Level → ℕ
+word_at Empty = 0
+word_at (At x) = unsigned_abs (x +ℤ pos (2 ^ 62))
+
+-- the word of some small level
+abbrev pub IsWord : ℕ → Type 0
+IsWord word = (l : Level) × IsSmall l × (word ≡ word_at l)
+
+-- a level for each state and direction, within the limits
+pub record IsWhole (t : Table) : Type 0 where
+  pub some_state : 1 ≤ t.states
+  pub few_states : t.states ≤ 64
+  pub some_direction : 1 ≤ t.directions
+  pub few_directions : t.directions ≤ 32
+  pub one_each : length t.levels ≡ t.states * t.directions
+
+-- the problem of a game, a table of directions and a grid
+abbrev pub problem_of : DynamicGame → DirectionTable → ℕ → Problem
+problem_of g d grid = record { game = g; directions = d.vectors; grid = grid }
+
+-- the opening table of a problem, with each level within its limit
+pub record IsOpening (p : Problem) (t : Table) : Type 0 where
+  pub sizes : IsTableOf p t
+  pub levels : (s k : ℕ) → IsRow p s k → levels_in t s k ≡ opening_table p s k
+  pub small : (row : ℕ) → IsSmall (level_at t row)
+
+-- the number is the absolute value of the first opening level that passes 2^50
+pub record IsFirstBeyond (p : Problem) (number : ℤ) : Type 0 where
+  pub direction : ℕ
+  pub known : direction < direction_count p
+  pub here : number ≡ pos (unsigned_abs (opening_level p direction))
+  pub beyond : 2 ^ 50 < unsigned_abs (opening_level p direction)
+  pub none_before : (k : ℕ) → k < direction → unsigned_abs (opening_level p k) ≤ 2 ^ 50
