@@ -1,0 +1,13 @@
+pub mod Bounding
+pub mod Ceilings
+pub mod Cleared
+pub mod Correspondence
+pub mod Directions
+pub mod Levels
+pub mod Notes
+pub mod Opening
+pub mod Operator
+pub mod Order
+pub mod Places
+pub mod Start
+pub mod Sums
