@@ -1,0 +1,5 @@
+pub mod Lexing
+pub mod Parts
+pub mod Spelled
+pub mod Steps
+pub mod Whole

@@ -1,0 +1,16 @@
+//! Gambit's strategic form games, from bytes to values.
+#![tactic(auto)]
+
+mod nfg;
+mod numbers;
+mod reading;
+mod tokens;
+mod worked;
+
+pub use nfg::{Nfg, NfgFault, Strategies, Text};
+pub use reading::read_nfg;
+pub use tokens::{Lexeme, LexemeKind, Lexer};
+pub use worked::{plain_file, token_places};
+
+#[cfg(test)]
+mod tests;
