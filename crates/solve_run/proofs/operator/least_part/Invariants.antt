@@ -1,0 +1,10 @@
+use Rattle.level_table.specs.Levels.{levels_in}
+use Rattle.level_table.specs.Tables.{problem_of}
+use Rattle.solve_run.specs.Axes.{IsLeast, AreKnown}
+use Rattle.solve_run.proofs.operator.least_part.Given as goal
+
+abbrev pub invariant-loop-b : goal.invariant-loop-b
+invariant-loop-b l = record {
+  least : IsLeast (problem_of l.fn.game l.fn.dirs l.fn.grid) (levels_in l.fn.levels) l.fn.s l.fn.a l.fn.i l.b l.fn.start l.low;
+  known : AreKnown (problem_of l.fn.game l.fn.dirs l.fn.grid) (levels_in l.fn.levels) l.fn.s l.fn.a l.fn.i l.b;
+}

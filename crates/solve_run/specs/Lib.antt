@@ -1,0 +1,7 @@
+pub mod Axes
+pub mod PlainGame
+pub mod ReportText
+pub mod Run
+pub mod Solved
+pub mod Sweeps
+pub mod Words

@@ -1,0 +1,142 @@
+-- What the top call promises: which answer comes from which cause, what the report is, and what the sink has then taken.
+use Rattle.std.specs.Prelude.{◌≡◌, ℕ, ◌+◌, ◌<◌, ◌≤◌, List, ◌++◌, length, take, Option, Some, None, IfSome, pos}
+use Rattle.std.specs.Option.{option_map}
+use Rattle.pay_frac.specs.Ratio.{Ratio, Equals}
+use Rattle.pay_outside.specs.Counts.{Rose}
+use Rattle.level_table.specs.Tables.{problem_of}
+use Rattle.nfg_text.specs.declared.nfg.Nfg.{Nfg}
+use Rattle.nfg_text.specs.PlainFile.{IsPlainFile}
+use Rattle.solve_run.specs.declared.words.Settings.{Settings}
+use Rattle.solve_run.specs.declared.report.Report.{Report}
+use Rattle.solve_run.specs.declared.report.Verdict.{Verdict}
+use Rattle.solve_run.specs.declared.outcome.Status.{Status}
+use Rattle.solve_run.specs.declared.outcome.Status.TheVariants.{Settled, Usage, Spent, BadInput, TooLong, ReadFault, WriteFault, NoMemory}
+use Rattle.solve_run.specs.PlainGame.{IsSmallDiscount, plain_game, axes_of_two}
+use Rattle.solve_run.specs.Words.{IsMisfit, IsSolve, word_at}
+use Rattle.solve_run.specs.ReportText.{IsReportText}
+use Rattle.solve_run.specs.Solved.{IsReportOf, IsSupportedVerdict, IsUnsupportedAt}
+
+-- How many bytes a game's file may have.
+abbrev pub longest_file : ℕ
+longest_file = 1048576
+
+-- the name of the file among the words
+abbrev pub file_name : List (List ℕ) → List ℕ
+file_name words = word_at words 1
+
+-- A load as its caller sees it: the bytes that stand under the name, where the shelf tells them, and the shelf's counts before and after.
+pub record Load : Type 0 where
+  pub file : Option (List ℕ)
+  pub faults_before : ℕ
+  pub faults_after : ℕ
+  pub overlong_before : ℕ
+  pub overlong_after : ℕ
+  pub loads_before : Option ℕ
+  pub loads_after : Option ℕ
+
+-- Some bytes that are not too long are the file of the game: those that stand under the name, where the shelf tells them.
+pub record IsFileOf (file : Option (List ℕ)) (n : Nfg) : Type 0 where
+  pub bytes : List ℕ
+  pub short : length bytes ≤ longest_file
+  pub is_plain : IsPlainFile bytes n
+  pub told : IfSome file (λ b. bytes ≡ b)
+
+-- why there is no game
+abbrev pub IsFileFault : Load → Status → Type 0
+IsFileFault load (ReadFault file) = Rose load.faults_before load.faults_after × IfSome load.loads_after (λ after. (before : ℕ) × (load.loads_before ≡ Some before) × (after ≡ before + 1))
+IsFileFault load (TooLong file) = Rose load.overlong_before load.overlong_after × IfSome load.file (λ bytes. longest_file < length bytes)
+IsFileFault load (BadInput file at) = (at ≡ 0) × IfSome load.file (λ bytes. (length bytes ≤ longest_file) × ((n : Nfg) → IsPlainFile bytes n → ⊥))
+IsFileFault load NoMemory = Unit {0}
+IsFileFault load (Usage index) = ⊥
+IsFileFault load (WriteFault written) = ⊥
+IsFileFault load Settled = ⊥
+IsFileFault load (Spent sweeps row) = ⊥
+
+-- why there is no report: a word doesn't fit, or else the file gives no game, or memory ran out
+abbrev pub IsCause : List (List ℕ) → Load → Status → Type 0
+IsCause words load (Usage index) = IsMisfit words index
+IsCause words load (ReadFault file) = ((set : Settings) × IsSolve words set) × IsFileFault load (ReadFault file)
+IsCause words load (TooLong file) = ((set : Settings) × IsSolve words set) × IsFileFault load (TooLong file)
+IsCause words load (BadInput file at) = ((set : Settings) × IsSolve words set) × IsFileFault load (BadInput file at)
+IsCause words load NoMemory = Unit {0}
+IsCause words load (WriteFault written) = ⊥
+IsCause words load Settled = ⊥
+IsCause words load (Spent sweeps row) = ⊥
+
+-- the number is n/d with 0 < n < d ≤ 16
+pub record IsSmallNumber (r : Ratio) : Type 0 where
+  pub numerator : ℕ
+  pub denominator : ℕ
+  pub positive : 0 < numerator
+  pub below : numerator < denominator
+  pub small : denominator ≤ 16
+  pub same : Equals r (pos numerator) (pos denominator)
+
+-- The report is that of the game in the file, with the discount factor p/q and the settings of the words.
+pub record IsAnswer (words : List (List ℕ)) (file : Option (List ℕ)) (report : Report) : Type 0 where
+  pub set : Settings
+  pub is_solve : IsSolve words set
+  pub game : Nfg
+  pub is_file : IsFileOf file game
+  pub p : ℕ
+  pub q : ℕ
+  pub discount : IsSmallDiscount p q
+  pub same : Equals set.discount (pos p) (pos q)
+  pub is_report : IsReportOf (problem_of (plain_game game p q) axes_of_two set.grid) set.slack set.budget report
+
+-- the status of a report whose whole text was taken
+abbrev pub IsStatusOf : Verdict → ℕ → Status → Type 0
+IsStatusOf verdict sweeps Settled = IsSupportedVerdict verdict
+IsStatusOf verdict sweeps (Spent n row) = IsUnsupportedAt row verdict × (n ≡ sweeps)
+IsStatusOf verdict sweeps (Usage index) = ⊥
+IsStatusOf verdict sweeps (BadInput file at) = ⊥
+IsStatusOf verdict sweeps (TooLong file) = ⊥
+IsStatusOf verdict sweeps (ReadFault file) = ⊥
+IsStatusOf verdict sweeps (WriteFault written) = ⊥
+IsStatusOf verdict sweeps NoMemory = ⊥
+
+-- A sink as its caller sees it: the bytes that it has taken, where it tells them, and its count of faults, before and after.
+pub record Taking : Type 0 where
+  pub before : Option (List ℕ)
+  pub after : Option (List ℕ)
+  pub faults_before : ℕ
+  pub faults_after : ℕ
+
+-- the sink took the first n bytes of the report's text
+pub record TookPart (report : Report) (sink : Taking) (n : ℕ) : Type 0 where
+  pub text : List ℕ
+  pub is_text : IsReportText report text
+  pub within : n ≤ length text
+  pub taken : sink.after ≡ option_map (λ t. t ++ take n text) sink.before
+
+-- the sink took the whole text
+pub record TookAll (report : Report) (sink : Taking) : Type 0 where
+  pub text : List ℕ
+  pub is_text : IsReportText report text
+  pub taken : sink.after ≡ option_map (λ t. t ++ text) sink.before
+
+-- the sink took nothing, and there is no report
+abbrev pub IsRefusal : Taking → Option Report → Type 0
+IsRefusal sink shown = (sink.after ≡ sink.before) × (shown ≡ None)
+
+-- what is left after the text of a report was to be written
+abbrev pub IsWritten : Report → Taking → Option Report → Status → Type 0
+IsWritten report sink shown NoMemory = IsRefusal sink shown
+IsWritten report sink shown (WriteFault written) = (shown ≡ Some report) × Rose sink.faults_before sink.faults_after × TookPart report sink written
+IsWritten report sink shown Settled = (shown ≡ Some report) × TookAll report sink × IsStatusOf report.verdict report.sweeps Settled
+IsWritten report sink shown (Spent sweeps row) = (shown ≡ Some report) × TookAll report sink × IsStatusOf report.verdict report.sweeps (Spent sweeps row)
+IsWritten report sink shown (Usage index) = ⊥
+IsWritten report sink shown (BadInput file at) = ⊥
+IsWritten report sink shown (TooLong file) = ⊥
+IsWritten report sink shown (ReadFault file) = ⊥
+
+-- What each answer says.
+abbrev pub Causes : List (List ℕ) → Load → Taking → Option Report → Status → Type 0
+Causes words load sink shown (Usage index) = IsCause words load (Usage index) × IsRefusal sink shown
+Causes words load sink shown (ReadFault file) = IsCause words load (ReadFault file) × IsRefusal sink shown
+Causes words load sink shown (TooLong file) = IsCause words load (TooLong file) × IsRefusal sink shown
+Causes words load sink shown (BadInput file at) = IsCause words load (BadInput file at) × IsRefusal sink shown
+Causes words load sink shown NoMemory = IsRefusal sink shown
+Causes words load sink shown (WriteFault written) = (report : Report) × IsAnswer words load.file report × IsWritten report sink shown (WriteFault written)
+Causes words load sink shown Settled = (report : Report) × IsAnswer words load.file report × IsWritten report sink shown Settled
+Causes words load sink shown (Spent sweeps row) = (report : Report) × IsAnswer words load.file report × IsWritten report sink shown (Spent sweeps row)

@@ -1,0 +1,101 @@
+-- What a run keeps of its table, and what one sweep does.
+use Rattle.std.specs.Prelude.{◌≡◌, ◌⊎◌, ℕ, zero, suc, ◌/◌, ◌%◌, ◌<◌, ◌≤◌, ◌^◌, ◌++◌, List, [], length, Option, Some, None, ℤ, pos, ◌-ℤ◌, ◌*ℤ◌, ◌≤ℤ◌, ◌<ℤ◌}
+use Rattle.std.specs.Int.{int_min}
+use Rattle.std.specs.Option.{option_to_list}
+use Rattle.std.specs.Int.RustNames.{unsigned_abs}
+use Rattle.pay_frac.specs.Ratio.{Ratio, Equals}
+use Rattle.game_model.specs.Game.{counts, profile_count}
+use Rattle.level_table.specs.declared.level.Level.{Level}
+use Rattle.level_table.specs.declared.level.Level.TheVariants.{Empty, At}
+use Rattle.level_table.specs.Problem.{Problem, direction_count}
+use Rattle.level_table.specs.Levels.{Levels, Table, IsRow, IsBelow, AtMost, levels_in, level_at, opening_table}
+use Rattle.level_table.specs.Operator.{Admissible, Fractions, IsRowLevel, HasValueAbove, value, value_unit}
+use Rattle.level_table.specs.Supported.{IsEven, IsSupported}
+use Rattle.bound_laws.specs.Laws.{KeepsSupported}
+use Rattle.solve_run.specs.Axes.{HasSmallParts, IsSmallTable, point_of}
+use Rattle.solve_run.specs.declared.report.Support.{Support}
+use Rattle.solve_run.specs.declared.settle.RowVerdict.{RowVerdict}
+use Rattle.solve_run.specs.declared.settle.RowVerdict.TheVariants as verdicts
+use Rattle.solve_run.specs.declared.report.Verdict.{Verdict}
+use Rattle.solve_run.specs.declared.report.Verdict.TheVariants.{Supported, Unsupported}
+
+-- The table of a run: each level is at most the opening and at least that of every supported table, so it bounds.
+pub record IsRunTable (p : Problem) (t : Table) : Type 0 where
+  pub table : IsSmallTable p t
+  pub even : IsEven p (levels_in t)
+  pub below : IsBelow p (levels_in t) (opening_table p)
+  pub kept : KeepsSupported p (opening_table p) (levels_in t)
+
+-- The level to which a row is lowered: the lesser of its level and its row level. An Empty row, and one where nothing is admissible, is left.
+abbrev pub IsLowered : Problem → Levels → ℕ → ℕ → Level → Type 0
+IsLowered p t s k Empty = t s k ≡ Empty
+IsLowered p t s k (At z) = (x : ℤ) × (t s k ≡ At x)
+    × ((IsRowLevel p t s k Empty × (z ≡ x)) ⊎ ((m : ℤ) × IsRowLevel p t s k (At m) × (unsigned_abs m ≤ 2 ^ 50) × (z ≡ int_min x m)))
+
+-- The row is at most each row level of a table from which the levels came down, or nothing is admissible any more.
+abbrev pub IsPassed : Problem → Levels → Levels → ℕ → ℕ → Type 0
+IsPassed p old new s k = (l : Level) → IsRowLevel p old s k l → AtMost (new s k) l ⊎ IsRowLevel p new s k Empty
+
+-- what one step of a sweep leaves
+pub record IsStep (p : Problem) (old new : Table) : Type 0 where
+  pub run : IsRunTable p new
+  pub below : IsBelow p (levels_in new) (levels_in old)
+
+-- what a sweep leaves
+pub record IsSwept (p : Problem) (old new : Table) : Type 0 where
+  pub step : IsStep p old new
+  pub passed : (s k : ℕ) (l : Level) → IsRow p s k → IsRowLevel p (levels_in old) s k l → AtMost (levels_in new s k) l
+
+-- The support is a profile and a point within 2^50 of zero that is admissible under the table and has a value above the row's level less the slack.
+pub record IsSupportOf (p : Problem) (t : Table) (slack : ℕ) (support : Support) (s k : ℕ) (x : ℤ) : Type 0 where
+  pub profile : support.profile < profile_count (counts p.game s)
+  pub admissible : Admissible p (levels_in t) s support.profile (point_of support.point)
+  pub above : ((x -ℤ pos slack) *ℤ value_unit p (point_of support.point)) <ℤ value p s support.profile k (point_of support.point)
+  pub small : HasSmallParts support.point.num
+
+-- the state and the direction of a row
+abbrev pub state_of : Problem → ℕ → ℕ
+state_of p row = row / direction_count p
+
+abbrev pub direction_of : Problem → ℕ → ℕ
+direction_of p row = row % direction_count p
+
+-- the largest admissible value of a state in a direction
+pub record IsLargestValue (p : Problem) (t : Levels) (s k : ℕ) (r : Ratio) : Type 0 where
+  pub profile : ℕ
+  pub vector : Fractions
+  pub known : profile < profile_count (counts p.game s)
+  pub admissible : Admissible p t s profile vector
+  pub here : Equals r (value p s profile k vector) (value_unit p vector)
+  pub largest : (a : ℕ) (y : Fractions) → a < profile_count (counts p.game s) → Admissible p t s a y → (value p s a k y *ℤ vector.denominator) ≤ℤ (value p s profile k vector *ℤ y.denominator)
+
+-- what is reached in a row that isn't supported: the largest value, or none where nothing is admissible
+abbrev pub IsReached : Problem → Levels → ℕ → ℕ → Option Ratio → Type 0
+IsReached p t s k None = IsRowLevel p t s k Empty
+IsReached p t s k (Some r) = IsLargestValue p t s k r
+
+-- What the test says of one row: it is Empty, or what supports it, or its level and what is reached.
+abbrev pub IsRowVerdict : Problem → Table → ℕ → ℕ → RowVerdict → Type 0
+IsRowVerdict p t slack row (verdicts.Fine None) = level_at t row ≡ Empty
+IsRowVerdict p t slack row (verdicts.Fine (Some support)) = (x : ℤ) × (level_at t row ≡ At x) × (support.row ≡ row) × IsSupportOf p t slack support (state_of p row) (direction_of p row) x
+IsRowVerdict p t slack row (verdicts.Unsupported level reached) =
+    (level_at t row ≡ At level)
+    × (HasValueAbove p (levels_in t) (state_of p row) (direction_of p row) (level -ℤ pos slack) → ⊥)
+    × IsReached p (levels_in t) (state_of p row) (direction_of p row) reached
+
+-- one support for each finite row below n, in row order
+abbrev pub AreSupports : Problem → Table → ℕ → ℕ → List Support → Type 0
+AreSupports p t slack zero supports = supports ≡ []
+AreSupports p t slack (suc n) supports = (before : List Support) × (added : Option Support) × AreSupports p t slack n before × (supports ≡ before ++ option_to_list added) × IsRowVerdict p t slack n (verdicts.Fine added)
+
+-- each finite row below n has an admissible value above its level less the slack
+abbrev pub AreSupported : Problem → Table → ℕ → ℕ → Type 0
+AreSupported p t slack n = (row : ℕ) (x : ℤ) → row < n → level_at t row ≡ At x → HasValueAbove p (levels_in t) (state_of p row) (direction_of p row) (x -ℤ pos slack)
+
+-- What the settling test says: the table is supported, with one support for each finite row; or else the first row that isn't, with its level and what is reached.
+abbrev pub IsVerdict : Problem → Table → ℕ → Verdict → Type 0
+IsVerdict p t slack (Supported supports) = IsSupported p (levels_in t) slack × AreSupports p t slack (length t.levels) supports
+IsVerdict p t slack (Unsupported row level reached) =
+    (row < length t.levels) × (level_at t row ≡ At level) × AreSupported p t slack row
+    × (HasValueAbove p (levels_in t) (state_of p row) (direction_of p row) (level -ℤ pos slack) → ⊥)
+    × IsReached p (levels_in t) (state_of p row) (direction_of p row) reached

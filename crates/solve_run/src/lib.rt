@@ -1,0 +1,23 @@
+//! The top call: from words and files to a report.
+#![tactic(auto)]
+
+mod game;
+mod operator;
+mod outcome;
+mod report;
+mod run;
+mod settle;
+mod solve;
+mod sweep;
+mod text;
+mod words;
+mod write;
+
+pub use outcome::{FileId, Outcome, Status};
+pub use report::{Point, Report, Support, Verdict};
+pub use run::payoff_run;
+pub use text::{fraction_word_law, text_of};
+pub use words::{Settings, UsageFault, settings_of, words_laws};
+
+#[cfg(test)]
+mod tests;

@@ -1,0 +1,38 @@
+use crate::report::Report;
+
+/// Which file.
+#[derive(Clone, Copy, Debug, PartialEq, Eq)]
+pub enum FileId {
+    /// The game.
+    First,
+}
+
+/// How a call ended.
+#[derive(Clone, Copy, Debug, PartialEq, Eq)]
+pub enum Status {
+    /// The table is supported within the slack, and the whole text was taken.
+    Settled,
+    /// The words have no settings: the first word that doesn't fit, or the number of words where one is
+    /// missing.
+    Usage { index: u32 },
+    /// The budget's sweeps were run, the table is unsupported first at this row, and the whole text was
+    /// taken.
+    Spent { sweeps: u64, row: u32 },
+    /// The file isn't valid at this byte.
+    BadInput { file: FileId, at: u64 },
+    /// The file has more bytes than it may.
+    TooLong { file: FileId },
+    /// The file can't be read.
+    ReadFault { file: FileId },
+    /// Only so many bytes of the text could be written.
+    WriteFault { written: u64 },
+    /// Memory ran out.
+    NoMemory,
+}
+
+/// What a call leaves: how it ended, and the report where one was made.
+#[derive(Drop)]
+pub struct Outcome {
+    pub status: Status,
+    pub report: Option<Report>,
+}

@@ -1,0 +1,113 @@
+//! One sweep over a table.
+
+ghost use Rattle.std.specs.Prelude.{◌≡◌, ◌≢◌, ℕ, ◌+◌, ◌*◌, ◌<◌, ◌≤◌, length, slice_set, IsTrue, ◌↔◌};
+ghost use Rattle.game_model.specs.Game.{states};
+ghost use Rattle.level_table.specs.declared.level.Level.{Level};
+ghost use Rattle.level_table.specs.declared.level.Level.TheVariants.{Empty};
+ghost use Rattle.level_table.specs.Levels.{Levels, IsBelow, levels_in};
+ghost use Rattle.level_table.specs.Tables.{IsWhole, problem_of};
+ghost use Rattle.level_table.specs.Operator.{IsRowLevel};
+ghost use Rattle.solve_run.specs.Axes.{IsAxisProblem};
+ghost use Rattle.solve_run.specs.Sweeps.{IsRunTable, IsLowered, IsPassed, IsStep, IsSwept};
+
+use crate::operator::{RowAnswer, is_alive, row_level};
+use direction_set::Directions;
+use game_model::Game;
+use level_table::{Level, LevelTable};
+
+/// Lowers each row in order to its row level under the present levels, and then clears each state in
+/// order in which nothing is admissible.
+pub(crate) fn sweep(game: &Game, dirs: &Directions, grid: u32, levels: &mut LevelTable)
+    requires problem { IsAxisProblem game.now dirs.now grid }
+    requires run { IsRunTable (problem_of game.now dirs.now grid) levels.old }
+    ensures { IsSwept (problem_of game.now dirs.now grid) levels.old levels.new }
+{
+    lower_rows(game, dirs, grid, levels);
+    clear_states(game, dirs, grid, levels);
+}
+
+/// Lowers each row in order.
+fn lower_rows(game: &Game, dirs: &Directions, grid: u32, levels: &mut LevelTable)
+    requires problem { IsAxisProblem game.now dirs.now grid }
+    requires run { IsRunTable (problem_of game.now dirs.now grid) levels.old }
+    ensures step { IsStep (problem_of game.now dirs.now grid) levels.old levels.new }
+    ensures passed { (s k : ℕ) → s < states game.now → k < length dirs.now.vectors → IsPassed (problem_of game.now dirs.now grid) (levels_in levels.old) (levels_in levels.new) s k }
+{
+    for s in 0..game.states() {
+        for k in 0..dirs.count() {
+            lower(game, dirs, grid, levels, s, k);
+        }
+    }
+}
+
+/// Lowers a row to its row level. An Empty row, and one where nothing is admissible, is left.
+fn lower(game: &Game, dirs: &Directions, grid: u32, levels: &mut LevelTable, s: u32, k: u32)
+    requires problem { IsAxisProblem game.now dirs.now grid }
+    requires run { IsRunTable (problem_of game.now dirs.now grid) levels.old }
+    requires state { s < states game.now }
+    requires dir { k < length dirs.now.vectors }
+    ensures step { IsStep (problem_of game.now dirs.now grid) levels.old levels.new }
+    ensures passed { (old : Levels) → IsBelow (problem_of game.now dirs.now grid) (levels_in levels.old) old → IsPassed (problem_of game.now dirs.now grid) old (levels_in levels.new) s k }
+{
+    let level = lowered(game, dirs, grid, levels, s, k);
+    levels.set(s * dirs.count() + k, level);
+}
+
+/// The lesser of a row's level and its row level.
+fn lowered(game: &Game, dirs: &Directions, grid: u32, levels: &LevelTable, s: u32, k: u32) -> Level
+    requires problem { IsAxisProblem game.now dirs.now grid }
+    requires run { IsRunTable (problem_of game.now dirs.now grid) levels.now }
+    requires state { s < states game.now }
+    requires dir { k < length dirs.now.vectors }
+    ensures { IsLowered (problem_of game.now dirs.now grid) (levels_in levels.now) s k result }
+{
+    match levels.get(s * dirs.count() + k) {
+        Level::Empty => Level::Empty,
+        Level::At(old) => match row_level(game, dirs, grid, levels, s, k) {
+            RowAnswer::Level { level, .. } => Level::At(old.min(level)),
+            RowAnswer::EmptyState => Level::At(old),
+        },
+    }
+}
+
+/// Clears each state in order in which nothing is admissible.
+fn clear_states(game: &Game, dirs: &Directions, grid: u32, levels: &mut LevelTable)
+    requires problem { IsAxisProblem game.now dirs.now grid }
+    requires run { IsRunTable (problem_of game.now dirs.now grid) levels.old }
+    ensures step { IsStep (problem_of game.now dirs.now grid) levels.old levels.new }
+    ensures cleared { (s k : ℕ) → s < states game.now → k < length dirs.now.vectors → IsRowLevel (problem_of game.now dirs.now grid) (levels_in levels.old) s k Empty → levels_in levels.new s k ≡ Empty }
+{
+    for s in 0..game.states() {
+        clear_dead(game, dirs, grid, levels, s);
+    }
+}
+
+/// Clears a state in which nothing is admissible.
+fn clear_dead(game: &Game, dirs: &Directions, grid: u32, levels: &mut LevelTable, s: u32)
+    requires problem { IsAxisProblem game.now dirs.now grid }
+    requires run { IsRunTable (problem_of game.now dirs.now grid) levels.old }
+    requires state { s < states game.now }
+    ensures step { IsStep (problem_of game.now dirs.now grid) levels.old levels.new }
+    ensures cleared { (k : ℕ) → k < length dirs.now.vectors → IsRowLevel (problem_of game.now dirs.now grid) (levels_in levels.old) s k Empty → levels_in levels.new s k ≡ Empty }
+{
+    if is_alive(game, dirs, grid, levels, s) {
+        return;
+    }
+    clear(levels, s);
+}
+
+/// Makes each row of a state Empty.
+fn clear(levels: &mut LevelTable, s: u32)
+    requires whole { IsWhole levels.old }
+    requires state { s < levels.old.states }
+    ensures whole { IsWhole levels.new }
+    ensures states { levels.new.states ≡ levels.old.states }
+    ensures directions { levels.new.directions ≡ levels.old.directions }
+    ensures cleared { (k : ℕ) → k < levels.old.directions → levels_in levels.new s k ≡ Empty }
+    ensures others { (t k : ℕ) → t ≢ s → k < levels.old.directions → levels_in levels.new t k ≡ levels_in levels.old t k }
+{
+    let count = levels.directions();
+    for k in 0..count {
+        levels.set(s * count + k, Level::Empty);
+    }
+}
