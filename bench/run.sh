@@ -1,0 +1,26 @@
+#!/bin/sh
+# Times the built program over the example games, a line a game. It is no test.
+top=$(CDPATH='' cd -- "$(dirname -- "$0")/.." && pwd) || exit 1
+program=$top/crates/payoff_cli/out/payoff_cli
+[ -x "$program" ] || "$top/payoff" help >/dev/null
+[ -x "$program" ] || { echo 'bench: build the program first: ./payoff solve examples/pd.nfg discount=1/2 directions=4 grid=4 workers=1 inner=0' >&2; exit 1; }
+words='discount=1/2 directions=4 grid=4 workers=1 inner=0'
+for game in "$top"/examples/*.nfg; do
+    name=$(basename "$game")
+    if command -v hyperfine >/dev/null 2>&1; then
+        # shellcheck disable=SC2086
+        hyperfine --style none --shell=none --ignore-failure --warmup 3 --export-csv /tmp/payoff-bench.$$ "$program solve $game $words" >/dev/null 2>&1
+        printf '%s %s s\n' "$name" "$(tail -n 1 /tmp/payoff-bench.$$ | cut -d, -f2)"
+        rm -f /tmp/payoff-bench.$$
+    else
+        start=$(date +%s%N)
+        runs=0
+        while [ $runs -lt 20 ]; do
+            # shellcheck disable=SC2086
+            "$program" solve "$game" $words >/dev/null 2>&1
+            runs=$((runs + 1))
+        done
+        end=$(date +%s%N)
+        printf '%s %s us\n' "$name" $(((end - start) / 20000))
+    fi
+done
