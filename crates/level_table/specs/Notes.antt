@@ -3,6 +3,7 @@ use Rattle.std.specs.Prelude.{◌≡◌, ◌⊎◌, ℕ, ◌<◌, List, [], ◌�
 use Rattle.level_table.specs.declared.level.Level.TheVariants.{At}
 use Rattle.level_table.specs.declared.reason.Item.{Item}
 use Rattle.level_table.specs.declared.reason.Item.TheVariants as items
+use Rattle.level_table.specs.declared.reason.Note.{Note}
 use Rattle.level_table.specs.declared.reason.Reason.{Reason}
 use Rattle.level_table.specs.declared.reason.Reason.TheVariants as reasons
 use Rattle.game_model.specs.Game.{states, counts, profile_count, successor, reached, IsDeviation}
@@ -47,11 +48,6 @@ pub record IsCertificate (p : Problem) (keeps : Keeps) (s a : ℕ) (list : List 
   pub nonnegative : All (λ item. pos 0 ≤ℤ multiplier item) list
   pub cancel : (j : ℕ) → j < p.game.players → added_coefficients p j list ≡ pos 0
   pub negative : added_right_sides p s a list <ℤ pos 0
-
--- a state with one reason for each of its profiles
-pub record Note : Type 0 where
-  pub state : ℕ
-  pub reasons : List Reason
 
 abbrev pub no_note : Note
 no_note = record { state = 0; reasons = [] }

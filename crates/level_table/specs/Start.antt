@@ -7,7 +7,8 @@ use Rattle.game_model.specs.Game.{states}
 use Rattle.level_table.specs.Problem.{Problem, direction_count, opening_level}
 use Rattle.level_table.specs.Levels.{Levels, IsRow, IsBelow, AtMost, Bounds}
 use Rattle.level_table.specs.Supported.{IsEven, IsSupported}
-use Rattle.level_table.specs.Notes.{Note, Named, AreNotes, Keeps, bounding}
+use Rattle.level_table.specs.declared.reason.Note.{Note}
+use Rattle.level_table.specs.Notes.{Named, AreNotes, Keeps, bounding}
 
 -- Empty, or between the negative of the opposite opening level and its own opening level
 abbrev pub IsBetween : Problem → ℕ → Level → Type 0

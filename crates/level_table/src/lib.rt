@@ -11,5 +11,5 @@ pub mod worked;
 
 pub use level::{Level, at_most, level_of, word_of, word_order};
 pub use openings::{OpeningFault, opening, unit};
-pub use reason::{Item, Items, Reason};
+pub use reason::{Item, Items, Note, Reason};
 pub use table::{LevelTable, below};

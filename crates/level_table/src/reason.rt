@@ -1,6 +1,8 @@
-ghost use Rattle.std.specs.Prelude.{◌≡◌, ◌<◌, [], ◌∷◌, ◌++◌, length, slice_index_or};
+ghost use Rattle.level_table.specs.declared.reason.Item.TheVariants as items;
+ghost use Rattle.std.specs.Prelude.{◌≡◌, ◌<◌, [], ◌∷◌, ◌++◌, length, pos, slice_index_or};
 
 use arrayvec::ArrayVec;
+use game_model::List;
 use std::marker::Model;
 
 /// A row of a profile's program, with its multiplier in a certificate.
@@ -24,7 +26,9 @@ pub enum Item {
 
 impl Default for Item {
     /// A row with multiplier 0.
-    fn default() -> Self {
+    fn default() -> Self
+        ensures { result ≡ items.Level 0 (pos 0) (pos 0) }
+    {
         Item::Level {
             dir: 0,
             level: 0,
@@ -99,4 +103,11 @@ pub enum Reason {
     Farkas {
         items: Items,
     },
+}
+
+/// A state in which nothing is admissible, with one reason for each of its profiles, in profile order.
+#[derive(Drop)]
+pub struct Note {
+    pub state: u32,
+    pub reasons: List<Reason>,
 }
