@@ -3,6 +3,7 @@ pub mod Ceilings
 pub mod Cleared
 pub mod Correspondence
 pub mod Directions
+pub mod Falls
 pub mod Levels
 pub mod Notes
 pub mod Opening

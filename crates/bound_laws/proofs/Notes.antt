@@ -22,7 +22,8 @@ use Rattle.level_table.specs.Levels.{Levels, AtMost, IsBelow, IsNumber, IsRow}
 use Rattle.level_table.specs.Operator.{Fractions, Admissible, HasValueAbove}
 use Rattle.level_table.specs.Supported.{IsSupported}
 use Rattle.level_table.specs.Start.{IsAboveSupported}
-use Rattle.level_table.specs.Notes.{Keeps, coefficient, right_side, multiplier, IsItem, added_coefficients, added_right_sides, IsCertificate, Note, no_note, Named, IsReason, IsNote, AreNotes, levels_of, bounding}
+use Rattle.level_table.specs.declared.reason.Note.{Note}
+use Rattle.level_table.specs.Notes.{Keeps, coefficient, right_side, multiplier, IsItem, added_coefficients, added_right_sides, IsCertificate, no_note, Named, IsReason, IsNote, AreNotes, levels_of, bounding}
 use Rattle.bound_laws.specs.Laws.{IsProblem, HasBounds, HasKeptAbove, KeepsSupported}
 use Rattle.bound_laws.specs.TableOf.{IsLevelOf}
 use Rattle.bound_laws.proofs.Bounding.{above_supported_bounds}

@@ -5,7 +5,8 @@ use Rattle.direction_set.specs.DirectionTable.{IsDirectionTable}
 use Rattle.level_table.specs.declared.level.Level.TheVariants.{At}
 use Rattle.level_table.specs.Problem.{Problem}
 use Rattle.level_table.specs.Levels.{Levels, Bounds, IsRow}
-use Rattle.level_table.specs.Notes.{AreNotes, Note}
+use Rattle.level_table.specs.declared.reason.Note.{Note}
+use Rattle.level_table.specs.Notes.{AreNotes}
 use Rattle.level_table.specs.Start.{IsAboveSupported, IsBetween}
 
 -- a game within its limits, and a table of directions for its players

@@ -6,19 +6,21 @@
 //! each level of a run is at least the largest payoff of each self-generating correspondence, in its direction.
 #![tactic(auto)]
 
-ghost use Rattle.std.specs.Prelude.{◌≡◌, ℕ, ◌<◌, List, [], ◌∷◌, ◌++◌, ◌*ℤ◌, ◌≤ℤ◌, neg_ℤ};
+ghost use Rattle.std.specs.Prelude.{◌≡◌, ℕ, ◌+◌, ◌<◌, List, [], ◌∷◌, ◌++◌, ℤ, pos, ◌+ℤ◌, ◌-ℤ◌, ◌*ℤ◌, ◌≤ℤ◌, neg_ℤ};
 ghost use Rattle.direction_set.specs.DirectionTable.{opposite_of};
 ghost use Rattle.game_model.specs.Game.{states, counts, profile_count};
 ghost use Rattle.game_model.specs.SelfGeneration.{Correspondence, HasNoEntry, IsSelfGenerating};
 ghost use Rattle.level_table.specs.declared.level.Level.{Level};
-ghost use Rattle.level_table.specs.declared.level.Level.TheVariants.{Empty};
+ghost use Rattle.level_table.specs.declared.level.Level.TheVariants.{At, Empty};
 ghost use Rattle.level_table.specs.Problem.{Problem, direction_count, opening_level};
 ghost use Rattle.level_table.specs.Levels.{AtMost, Bounds, IsBelow, IsRow, Levels, lesser, opening_table};
-ghost use Rattle.level_table.specs.Operator.{Admissible, Fractions, IsRowLevel, value, value_unit};
-ghost use Rattle.level_table.specs.Supported.{IsSupported};
-ghost use Rattle.level_table.specs.Iterates.{IsIterate, IsNext};
-ghost use Rattle.level_table.specs.Notes.{AreNotes, IsNote, Named, Note, bounding, levels_of};
+ghost use Rattle.level_table.specs.Operator.{Admissible, Fractions, HasValueAbove, IsRowLevel, value, value_unit};
+ghost use Rattle.level_table.specs.Supported.{IsEven, IsSupported};
+ghost use Rattle.level_table.specs.Iterates.{IsIterate, IsNext, drop_of};
+ghost use Rattle.level_table.specs.declared.reason.Note.{Note};
+ghost use Rattle.level_table.specs.Notes.{AreNotes, IsNote, Named, bounding, levels_of};
 ghost use Rattle.level_table.specs.Start.{IsAboveSupported, IsBetween, IsStart};
+ghost use Rattle.bound_laws.specs.Falls.{HasFloor, IsBelowIterate, PassesRowLevels, most_drop};
 ghost use Rattle.bound_laws.specs.Laws.{HasBounds, HasKeptAbove, HasRange, IsProblem, KeepsSupported};
 ghost use Rattle.bound_laws.specs.TableOf.{IsTableFrom};
 
@@ -149,4 +151,29 @@ pub fn notes_keep_levels_that_bound()
     ensures one_more { (p : Problem) (start seen : Levels) (notes : List Note) (note : Note)
         → IsProblem p → KeepsSupported p start seen → HasKeptAbove p start notes
         → IsNote p (levels_of seen) notes note → HasKeptAbove p start (notes ++ note ∷ []) }
+{}
+
+/// A table that is lowered to the row levels of what it was, or of any greater table, is at most one iterate more. So
+/// the table of a run of r sweeps is at most the iterate after r steps, in whatever order its rows are lowered.
+pub fn tables_fall_below_iterates()
+    ensures start { (p : Problem) (start t : Levels) → IsBelow p t start → IsBelowIterate p start 0 t }
+    ensures next { (p : Problem) (start t u : Levels) (r : ℕ)
+        → IsBelowIterate p start r t → IsBelow p u t → PassesRowLevels p t u
+        → IsBelowIterate p start (r + 1) u }
+{}
+
+/// A table that comes down from the start drops by more and more, and at most by the heights of all rows and the
+/// number of states. Where a row has no admissible value above its level less the slack, a table that is at most its
+/// row level has dropped by one more: the level falls, or the state becomes Empty.
+pub fn drop_grows()
+    ensures start { (p : Problem) (start : Levels) → IsProblem p → IsEven p start → drop_of p start start ≡ pos 0 }
+    ensures grows { (p : Problem) (start t u : Levels)
+        → IsProblem p → HasFloor p start t → IsBelow p u t → drop_of p start t ≤ℤ drop_of p start u }
+    ensures rises { (p : Problem) (start t u : Levels) (s k : ℕ) (x : ℤ) (slack : ℕ) (l : Level)
+        → IsProblem p → IsEven p t → IsEven p u → HasFloor p start t → IsBelow p t start → IsBelow p u t
+        → IsRow p s k → t s k ≡ At x → 0 < slack → (HasValueAbove p t s k (x -ℤ pos slack) → ⊥)
+        → IsRowLevel p t s k l → AtMost (u s k) l
+        → (drop_of p start t +ℤ pos 1) ≤ℤ drop_of p start u }
+    ensures at_most { (p : Problem) (start t : Levels) → HasFloor p start t → drop_of p start t ≤ℤ most_drop p start }
+    ensures from_opening { (p : Problem) (t : Levels) → HasRange p t → HasFloor p (opening_table p) t }
 {}
