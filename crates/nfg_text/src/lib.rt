@@ -5,11 +5,13 @@ mod nfg;
 mod numbers;
 mod reading;
 mod tokens;
+mod what;
 mod worked;
 
 pub use nfg::{Nfg, NfgFault, Strategies, Text};
 pub use reading::read_nfg;
 pub use tokens::{Lexeme, LexemeKind, Lexer};
+pub use what::What;
 pub use worked::{plain_file, token_places};
 
 #[cfg(test)]
