@@ -60,6 +60,10 @@ fn real_files_are_loaded(rt: HostRuntime) -> Result<(), Fail> {
         let content = shelf.load(alloc, "pd.nfg", most)?;
         assert_eq!(rt; content.as_slice(), b"NFG 1 R".as_slice());
     }
+    fs::write(&rt, "empty.nfg", "")?;
+    for most in [0, 7] {
+        assert!(rt; shelf.load(alloc, "empty.nfg", most)?.is_empty());
+    }
     for (name, most, fault) in [
         ("pd.nfg", 6, ShelfFault::TooLong),
         ("pd.nfg", 0, ShelfFault::TooLong),
