@@ -1,0 +1,14 @@
+pub mod Alone
+pub mod Along
+pub mod Back
+pub mod Boxes
+pub mod Corners
+pub mod Duality
+pub mod Filters
+pub mod Fits
+pub mod Levels
+pub mod Lift
+pub mod Smaller
+pub mod Steps
+pub mod Sums
+pub mod Wholes

@@ -1,0 +1,206 @@
+use Rattle.std.proofs.Common.{◌≡◌, ℕ, suc, ◌+◌, ◌*◌, ◌<◌, ◌^◌, get_or, lit<, arith, refl, sym, subst, ◌∙◌}
+use Rattle.std.specs.Prelude.{pos, ◌*ℤ◌, ◌<ℤ◌, ◌≤ℤ◌, true, false}
+use Rattle.std.specs.Int.{w128}
+use Rattle.std.specs.Int.RustNames.{FitsSigned}
+use Rattle.std.proofs.lemmas.Int.{to_z-of_z}
+use Rattle.lp_cert.specs.Program.{entry}
+use Rattle.lp_core.specs.Lines.{along, line_at}
+use Rattle.lp_core.specs.Sizes.{level}
+use Rattle.lp_core.specs.Search.{IsEmpty}
+use Rattle.lp_core.proofs.Back.{best_back, empty_back, met_more, only_empty}
+use Rattle.lp_core.proofs.Fits.{fits, pivot_small}
+use Rattle.lp_core.proofs.Levels.{objective_fits, num_fits, items_fit, den_bound, dual_bound, farkas_bound}
+use Rattle.lp_core.proofs.Smaller.{small_line, small_lines, IsStep, pivot_live, smaller_is_reduced, source_within, levels, few}
+use Rattle.lp_core.proofs.search.+search.Goals as goal
+
+never : {A : Type 0} → false ≡ true → A
+never e = absurd (grind (arith, e))
+
+pub tightened-meets-requires-clause-small : goal.tightened-meets-requires-clause-small
+tightened-meets-requires-clause-small t c = small_line c.args.program.now c.args.objective c.args.r c.line-line.result c.requires.reduced c.requires.within c.line-line.ensures
+
+pub tightened-returns-then-meets : goal.tightened-returns-then-meets
+tightened-returns-then-meets t c =
+    let P = c.args.program.now in
+    let o = c.args.objective in
+    let r = c.args.r in
+    let n = level P.live in
+    let b = c.args.best.now in
+    let den : FitsSigned w128 c.args.best.now.den = fits _ (2 ^ 10) (omega (arith, c.requires.best.den, den_bound n)) (lit< tt) in
+    let meets = simp to_z-of_z at c.if-meets.ensures in
+    met_more P o r b c.requires.best (subst (λ x. along x.c b.num ≤ℤ (x.h *ℤ b.den)) c.line-line.ensures (meets.0 refl))
+
+pub on_plane-pivot_of-requires : goal.on_plane-pivot_of-requires
+on_plane-pivot_of-requires t c = small_line c.args.program.now c.args.objective c.args.r c.args.line c.requires.reduced c.requires.within c.requires.line
+
+pub on_plane-returns-in_default : goal.on_plane-returns-in_default
+on_plane-returns-in_default t c =
+    let P = c.args.program.now in
+    let r = c.args.r in
+    let b = c.args.best.now in
+    subst (λ items. IsEmpty P items) (sym c.only.ensures)
+    (only_empty P r b.num b.den c.requires.within c.requires.best.met.positive
+    (subst (λ x. (k : ℕ) → k < 3 → entry x.c k ≡ pos 0) c.requires.line c.in_default.ensures)
+    (subst (λ x. (x.h *ℤ b.den) <ℤ along x.c b.num) c.requires.line c.requires.broken))
+
+pub on_plane-forced-requires-clause-broken : goal.on_plane-forced-requires-clause-broken
+on_plane-forced-requires-clause-broken t c =
+    let b = c.args.best.now in
+    subst (λ x. (x.h *ℤ b.den) <ℤ along x.c b.num) (sym c.in-Some.ensures) c.requires.broken
+
+pub on_plane-reduced-requires-clause-own : goal.on_plane-reduced-requires-clause-own
+on_plane-reduced-requires-clause-own t c = small_line c.args.program.now c.args.objective c.args.r c.in-Some.pivot.line c.requires.reduced c.requires.within (c.in-Some.ensures ∙ c.requires.line)
+
+pub on_plane-reduced-requires-clause-small : goal.on_plane-reduced-requires-clause-small
+on_plane-reduced-requires-clause-small t c = small_lines c.args.program.now c.args.objective c.requires.reduced
+
+pub on_plane-reduced-requires-clause-pivot : goal.on_plane-reduced-requires-clause-pivot
+on_plane-reduced-requires-clause-pivot t c =
+    let P = c.args.program.now in
+    let o = c.args.objective in
+    let r = c.args.r in
+    let p = c.in-Some.pivot in
+    let from : p.line ≡ line_at P.lines.items r = c.in-Some.ensures ∙ c.requires.line in
+    let box = c.requires.reduced.boxes p.place p.inside (pivot_live P o r p c.requires.reduced c.requires.within from) in
+    omega (arith, box.within)
+
+pub on_plane-rest-requires-clause-own : goal.on_plane-rest-requires-clause-own
+on_plane-rest-requires-clause-own t c = small_line c.args.program.now c.args.objective c.args.r c.in-Some.pivot.line c.requires.reduced c.requires.within (c.in-Some.ensures ∙ c.requires.line)
+
+pub on_plane-rest-requires-clause-small : goal.on_plane-rest-requires-clause-small
+on_plane-rest-requires-clause-small t c = objective_fits (level c.args.program.now.live) c.args.objective c.requires.reduced.objective
+
+pub on_plane-solved-requires : goal.on_plane-solved-requires
+on_plane-solved-requires t c =
+    let P = c.args.program.now in
+    let o = c.args.objective in
+    let r = c.args.r in
+    let p = c.in-Some.pivot in
+    let from : p.line ≡ line_at P.lines.items r = c.in-Some.ensures ∙ c.requires.line in
+    let Q = c.reduced.result in
+    let rest = c.rest.result in
+    let s : IsStep P o r p Q rest = record { reduced = c.requires.reduced; within = c.requires.within; line = from; live = c.reduced.ensures.live; count = c.reduced.ensures.length; each = c.reduced.ensures.lines; is_rest = c.rest.ensures } in
+    let one : level P.live ≡ suc (level Q.live) = levels P o r p Q rest s in
+    let fall : 3 * level Q.live + 2 < t = omega (arith, c.decreases, one) in
+    (fall, smaller_is_reduced P o r p Q rest s)
+
+pub on_plane-lifted-requires-clause-own : goal.on_plane-lifted-requires-clause-own
+on_plane-lifted-requires-clause-own t c = small_line c.args.program.now c.args.objective c.args.r c.in-Some.pivot.line c.requires.reduced c.requires.within (c.in-Some.ensures ∙ c.requires.line)
+
+pub on_plane-lifted-requires-clause-num : goal.on_plane-lifted-requires-clause-num
+on_plane-lifted-requires-clause-num t c =
+    let Q = c.reduced.result in
+    let inner = c.in-Best.inner in
+    let best = c.in-Best.ensures in
+    num_fits (level Q.live) inner.num best.num
+
+pub on_plane-lifted-requires-clause-objective : goal.on_plane-lifted-requires-clause-objective
+on_plane-lifted-requires-clause-objective t c = objective_fits (level c.args.program.now.live) c.args.objective c.requires.reduced.objective
+
+pub on_plane-lifted-requires-clause-few : goal.on_plane-lifted-requires-clause-few
+on_plane-lifted-requires-clause-few t c =
+    let P = c.args.program.now in
+    let o = c.args.objective in
+    let r = c.args.r in
+    let p = c.in-Some.pivot in
+    let from : p.line ≡ line_at P.lines.items r = c.in-Some.ensures ∙ c.requires.line in
+    let Q = c.reduced.result in
+    let rest = c.rest.result in
+    let s : IsStep P o r p Q rest = record { reduced = c.requires.reduced; within = c.requires.within; line = from; live = c.reduced.ensures.live; count = c.reduced.ensures.length; each = c.reduced.ensures.lines; is_rest = c.rest.ensures } in
+    let less : level Q.live < 3 = few P o r p Q rest s in
+    let best = c.in-Best.ensures in
+    omega (arith, best.few.few, less)
+
+pub on_plane-lifted-requires-clause-small : goal.on_plane-lifted-requires-clause-small
+on_plane-lifted-requires-clause-small t c =
+    let Q = c.reduced.result in
+    let inner = c.in-Best.inner in
+    let best = c.in-Best.ensures in
+    items_fit _ _ inner.items (dual_bound (level Q.live)) best.few
+
+pub on_plane-lifted-requires-clause-rows : goal.on_plane-lifted-requires-clause-rows
+on_plane-lifted-requires-clause-rows t c =
+    let P = c.args.program.now in
+    let o = c.args.objective in
+    let r = c.args.r in
+    let p = c.in-Some.pivot in
+    let from : p.line ≡ line_at P.lines.items r = c.in-Some.ensures ∙ c.requires.line in
+    let Q = c.reduced.result in
+    let rest = c.rest.result in
+    let s : IsStep P o r p Q rest = record { reduced = c.requires.reduced; within = c.requires.within; line = from; live = c.reduced.ensures.live; count = c.reduced.ensures.length; each = c.reduced.ensures.lines; is_rest = c.rest.ensures } in
+    let inner = c.in-Best.inner in
+    let best = c.in-Best.ensures in
+    λ k d l. source_within P o r p Q rest s (get_or inner.items k d).0 (best.dual.rows k d l)
+
+pub on_plane-lifted-requires-clause-lines : goal.on_plane-lifted-requires-clause-lines
+on_plane-lifted-requires-clause-lines t c = small_lines c.args.program.now c.args.objective c.requires.reduced
+
+pub on_plane-lifted_items-requires-clause-few : goal.on_plane-lifted_items-requires-clause-few
+on_plane-lifted_items-requires-clause-few t c =
+    let P = c.args.program.now in
+    let o = c.args.objective in
+    let r = c.args.r in
+    let p = c.in-Some.pivot in
+    let from : p.line ≡ line_at P.lines.items r = c.in-Some.ensures ∙ c.requires.line in
+    let Q = c.reduced.result in
+    let rest = c.rest.result in
+    let s : IsStep P o r p Q rest = record { reduced = c.requires.reduced; within = c.requires.within; line = from; live = c.reduced.ensures.live; count = c.reduced.ensures.length; each = c.reduced.ensures.lines; is_rest = c.rest.ensures } in
+    let less : level Q.live < 3 = few P o r p Q rest s in
+    let none = c.in-Infeasible.ensures in
+    omega (arith, none.few.few, less)
+
+pub on_plane-lifted_items-requires-clause-small : goal.on_plane-lifted_items-requires-clause-small
+on_plane-lifted_items-requires-clause-small t c =
+    let Q = c.reduced.result in
+    let items = c.in-Infeasible.items in
+    let none = c.in-Infeasible.ensures in
+    items_fit _ _ items (farkas_bound (level Q.live)) none.few
+
+pub on_plane-lifted_items-requires-clause-rows : goal.on_plane-lifted_items-requires-clause-rows
+on_plane-lifted_items-requires-clause-rows t c =
+    let P = c.args.program.now in
+    let o = c.args.objective in
+    let r = c.args.r in
+    let p = c.in-Some.pivot in
+    let from : p.line ≡ line_at P.lines.items r = c.in-Some.ensures ∙ c.requires.line in
+    let Q = c.reduced.result in
+    let rest = c.rest.result in
+    let s : IsStep P o r p Q rest = record { reduced = c.requires.reduced; within = c.requires.within; line = from; live = c.reduced.ensures.live; count = c.reduced.ensures.length; each = c.reduced.ensures.lines; is_rest = c.rest.ensures } in
+    let items = c.in-Infeasible.items in
+    let none = c.in-Infeasible.ensures in
+    λ k d l. source_within P o r p Q rest s (get_or items k d).0 (none.none.rows k d l)
+
+pub on_plane-lifted_items-requires-clause-lines : goal.on_plane-lifted_items-requires-clause-lines
+on_plane-lifted_items-requires-clause-lines t c = small_lines c.args.program.now c.args.objective c.requires.reduced
+
+pub on_plane-lifted_items-requires-clause-size : goal.on_plane-lifted_items-requires-clause-size
+on_plane-lifted_items-requires-clause-size t c =
+    pivot_small c.in-Some.pivot (2 ^ 10) (2 ^ 80) (small_line c.args.program.now c.args.objective c.args.r c.in-Some.pivot.line c.requires.reduced c.requires.within (c.in-Some.ensures ∙ c.requires.line))
+
+pub on_plane-returns-in-Best : goal.on_plane-returns-in-Best
+on_plane-returns-in-Best t c =
+    let P = c.args.program.now in
+    let o = c.args.objective in
+    let r = c.args.r in
+    let b = c.args.best.now in
+    let p = c.in-Some.pivot in
+    let from : p.line ≡ line_at P.lines.items r = c.in-Some.ensures ∙ c.requires.line in
+    let Q = c.reduced.result in
+    let rest = c.rest.result in
+    let s : IsStep P o r p Q rest = record { reduced = c.requires.reduced; within = c.requires.within; line = from; live = c.reduced.ensures.live; count = c.reduced.ensures.length; each = c.reduced.ensures.lines; is_rest = c.rest.ensures } in
+    let inner = c.in-Best.inner in
+    best_back P o r p Q rest s b inner c.lifted.result c.requires.best (subst (λ x. (x.h *ℤ b.den) <ℤ along x.c b.num) (sym c.in-Some.ensures) c.requires.broken) c.in-Best.ensures c.lifted.ensures.num c.lifted.ensures.den c.lifted.ensures.items
+
+pub on_plane-returns-in-Infeasible : goal.on_plane-returns-in-Infeasible
+on_plane-returns-in-Infeasible t c =
+    let P = c.args.program.now in
+    let o = c.args.objective in
+    let r = c.args.r in
+    let b = c.args.best.now in
+    let p = c.in-Some.pivot in
+    let from : p.line ≡ line_at P.lines.items r = c.in-Some.ensures ∙ c.requires.line in
+    let Q = c.reduced.result in
+    let rest = c.rest.result in
+    let s : IsStep P o r p Q rest = record { reduced = c.requires.reduced; within = c.requires.within; line = from; live = c.reduced.ensures.live; count = c.reduced.ensures.length; each = c.reduced.ensures.lines; is_rest = c.rest.ensures } in
+    let items = c.in-Infeasible.items in
+    empty_back P o r p Q rest s b items c.lifted_items.result c.requires.best (subst (λ x. (x.h *ℤ b.den) <ℤ along x.c b.num) (sym c.in-Some.ensures) c.requires.broken) c.in-Infeasible.ensures c.lifted_items.ensures

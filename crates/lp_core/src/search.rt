@@ -1,0 +1,204 @@
+//! The search for the optimum, row by row.
+
+ghost use Rattle.lp_cert.specs.Program.{entry};
+ghost use Rattle.lp_core.specs.Elimination.{IsLifted, source_of, with_pivot};
+ghost use Rattle.lp_core.specs.Lines.{all_seen, along, is_seen, line_at};
+ghost use Rattle.lp_core.specs.Search.{IsBest, IsEmpty, IsOutcome, IsReduced};
+ghost use Rattle.lp_core.specs.Sizes.{AreAtMost, IsSmallLine};
+ghost use Rattle.std.specs.Int.RustNames.{unsigned_abs};
+ghost use Rattle.std.specs.Prelude.{ℕ, [], ◌*ℤ◌, ◌+◌, ◌-ℤ◌, ◌<ℤ◌, ◌<◌, ◌^◌, ◌∷◌, ◌≡◌, ◌≢◌, ◌≤◌, All, IsTrue, MatchOption, false, length, pos, slice_index_or, slice_set};
+
+use crate::corner::corner;
+use crate::elimination::pivot_of;
+use crate::pivot::Pivot;
+use crate::reduced::{Line, Optimum, Reduced, is_seen, meets};
+use lp_cert::Multipliers;
+
+/// What a program comes to.
+#[derive(Drop)]
+pub enum Outcome {
+    Best(Optimum),
+    Infeasible(Multipliers),
+}
+
+/// A row alone, once.
+fn only(r: u32) -> Multipliers
+    ensures { result ≡ (r, pos 1) ∷ [] }
+{
+    let mut items = Multipliers::new();
+    items.push((r, 1));
+    items
+}
+
+/// The optimum on the plane of a row, from that of the smaller program.
+fn lifted(
+    program: &Reduced,
+    objective: [i128; 3],
+    pivot: &Pivot,
+    r: u32,
+    inner: &Optimum,
+) -> Optimum
+    requires own { IsSmallLine (2 ^ 10) (2 ^ 80) pivot.now.line }
+    requires num { AreAtMost (2 ^ 90) inner.now.num }
+    requires den { unsigned_abs inner.now.den ≤ 2 ^ 10 }
+    requires objective { AreAtMost (2 ^ 21) objective }
+    requires few { length inner.now.items ≤ 3 }
+    requires small { All (λ item. unsigned_abs item.1 ≤ 2 ^ 20) inner.now.items }
+    requires rows { All (λ item. source_of pivot.now program.now.live r item.0 < length program.now.lines.items) inner.now.items }
+    requires lines { (l : ℕ) → l < length program.now.lines.items → IsSmallLine (2 ^ 10) (2 ^ 80) (line_at program.now.lines.items l) }
+    ensures num { IsLifted pivot.now inner.now.num inner.now.den result.num }
+    ensures den { result.den ≡ pivot.now.size *ℤ inner.now.den }
+    ensures items { result.items ≡ with_pivot pivot.now program.now.lines.items program.now.live r (inner.now.den *ℤ entry objective pivot.now.place) inner.now.items }
+{
+    let num = pivot.lifted_point(inner.num, inner.den);
+    Optimum {
+        num,
+        den: pivot.size * inner.den,
+        items: pivot.lifted_items(program, r, &inner.items, inner.den * objective[pivot.place]),
+    }
+}
+
+/// Whether a variable is the only one that is live.
+fn is_alone(live: [bool; 3], place: usize) -> bool
+    ensures { IsTrue result → (k : ℕ) → k < 3 → k ≢ place → slice_index_or live k false ≡ false }
+{
+    for k in 0..3usize {
+        if k != place && live[k] {
+            return false;
+        }
+    }
+    true
+}
+
+/// The numerators of the only point of a row in one variable.
+fn only_point(pivot: &Pivot) -> [i128; 3]
+    requires { IsSmallLine (2 ^ 10) (2 ^ 80) pivot.now.line }
+    ensures { result ≡ slice_set (pos 0 ∷ pos 0 ∷ pos 0 ∷ []) pivot.now.place (pivot.now.sign *ℤ pivot.now.line.h) }
+{
+    let mut num = [0; 3];
+    num[pivot.place] = pivot.sign * pivot.line.h;
+    num
+}
+
+/// The multiplier that makes a row in one variable bound the objective.
+fn only_bound(pivot: &Pivot, r: u32, objective: [i128; 3]) -> Multipliers
+    requires { AreAtMost (2 ^ 21) objective }
+    ensures { result ≡ (r, pivot.now.sign *ℤ entry objective pivot.now.place) ∷ [] }
+{
+    let mut items = Multipliers::new();
+    items.push((r, pivot.sign * objective[pivot.place]));
+    items
+}
+
+/// Two rows in one variable that no point meets.
+fn crossing(pivot: &Pivot, r: u32, line: Line, l: u32) -> Multipliers
+    requires { AreAtMost (2 ^ 10) line.c }
+    ensures { result ≡ (l, pivot.now.size) ∷ (r, pos 0 -ℤ pivot.now.sign *ℤ entry line.c pivot.now.place) ∷ [] }
+{
+    let mut items = Multipliers::new();
+    items.push((l, pivot.size));
+    items.push((r, -(pivot.sign * line.c[pivot.place])));
+    items
+}
+
+/// The optimum on the plane of a row where one variable is left, and the plane is a point.
+fn forced(
+    program: &Reduced,
+    objective: [i128; 3],
+    pivot: &Pivot,
+    r: u32,
+    best: &mut Optimum,
+) -> Option<Multipliers>
+    requires reduced { IsReduced program.now objective }
+    requires within { r < length program.now.lines.items }
+    requires best { IsBest (is_seen program.now.live r) program.now objective best.old }
+    requires line { pivot.now.line ≡ line_at program.now.lines.items r }
+    requires alone { (k : ℕ) → k < 3 → k ≢ pivot.now.place → slice_index_or program.now.live k false ≡ false }
+    requires broken { (pivot.now.line.h *ℤ best.old.den) <ℤ along pivot.now.line.c best.old.num }
+    ensures { MatchOption result (IsBest (is_seen program.now.live (r + 1)) program.now objective best.new) (IsEmpty program.now) }
+{
+    let num = only_point(pivot);
+    for l in 0..program.lines.len() as u32 {
+        let line = program.line(l);
+        if is_seen(program.live, r, l) && !meets(line, num, pivot.size) {
+            return Some(crossing(pivot, r, line, l));
+        }
+    }
+    let items = only_bound(pivot, r, objective);
+    *best = Optimum {
+        num,
+        den: pivot.size,
+        items,
+    };
+    None
+}
+
+/// The optimum on the plane of a row that the optimum so far breaks. It is kept out of the loop, where most rows hold.
+#[cycle(search)]
+#[inline(never)]
+fn on_plane(
+    program: &Reduced,
+    objective: [i128; 3],
+    r: u32,
+    line: Line,
+    best: &mut Optimum,
+) -> Option<Multipliers>
+    requires reduced { IsReduced program.now objective }
+    requires within { r < length program.now.lines.items }
+    requires best { IsBest (is_seen program.now.live r) program.now objective best.old }
+    requires line { line ≡ line_at program.now.lines.items r }
+    requires broken { (line.h *ℤ best.old.den) <ℤ along line.c best.old.num }
+    ensures { MatchOption result (IsBest (is_seen program.now.live (r + 1)) program.now objective best.new) (IsEmpty program.now) }
+{
+    let Some(pivot) = pivot_of(line) else {
+        return Some(only(r));
+    };
+    if is_alone(program.live, pivot.place) {
+        return forced(program, objective, &pivot, r, best);
+    }
+    match solved(&pivot.reduced(program, r), pivot.rest(objective)) {
+        Outcome::Best(inner) => {
+            *best = lifted(program, objective, &pivot, r, &inner);
+            None
+        }
+        Outcome::Infeasible(items) => Some(pivot.lifted_items(program, r, &items, 0)),
+    }
+}
+
+/// Takes one more row into account.
+#[cycle(search)]
+fn tightened(
+    program: &Reduced,
+    objective: [i128; 3],
+    r: u32,
+    best: &mut Optimum,
+) -> Option<Multipliers>
+    requires reduced { IsReduced program.now objective }
+    requires within { r < length program.now.lines.items }
+    requires best { IsBest (is_seen program.now.live r) program.now objective best.old }
+    ensures { MatchOption result (IsBest (is_seen program.now.live (r + 1)) program.now objective best.new) (IsEmpty program.now) }
+{
+    let line = program.line(r);
+    if meets(line, best.num, best.den) {
+        return None;
+    }
+    on_plane(program, objective, r, line, best)
+}
+
+/// The optimum of a program, or multipliers that prove it empty.
+#[cycle(search)]
+pub fn solved(program: &Reduced, objective: [i128; 3]) -> Outcome
+    requires { IsReduced program.now objective }
+    ensures { IsOutcome all_seen program.now objective result }
+{
+    let mut best = match corner(program, objective) {
+        Outcome::Best(best) => best,
+        Outcome::Infeasible(items) => return Outcome::Infeasible(items),
+    };
+    for r in 0..program.lines.len() as u32 {
+        if let Some(items) = tightened(program, objective, r, &mut best) {
+            return Outcome::Infeasible(items);
+        }
+    }
+    Outcome::Best(best)
+}
