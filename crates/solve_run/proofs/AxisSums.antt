@@ -28,7 +28,7 @@ sum_below-one f (suc n) i within h = elim (cases_eq n i) [
 direction_is : (p : Problem) (k : ℕ) → k < direction_count p → direction p k ≡ vector_at p.directions k
 direction_is p k within = get_or_default p.directions k [] zero_vector within
 
-part-negative : (v : List ℤ) (j : ℕ) → part (negative v) j ≡ neg_ℤ (part v j)
+pub part-negative : (v : List ℤ) (j : ℕ) → part (negative v) j ≡ neg_ℤ (part v j)
 part-negative [] j = refl
 part-negative (x ∷ v) zero = refl
 part-negative (x ∷ v) (suc j) = part-negative v j
@@ -39,16 +39,16 @@ part-zero_vector (suc zero) = refl
 part-zero_vector (suc (suc zero)) = refl
 part-zero_vector (suc (suc (suc j))) = refl
 
-part-unit_same : (i : ℕ) → i < 3 → part (unit_vector i) i ≡ pos 1
+pub part-unit_same : (i : ℕ) → i < 3 → part (unit_vector i) i ≡ pos 1
 part-unit_same i within = get_or-set_same zero_vector i (pos 1) (pos 0) within
 
-part-unit_other : (i j : ℕ) → j ≢ i → part (unit_vector i) j ≡ pos 0
+pub part-unit_other : (i j : ℕ) → j ≢ i → part (unit_vector i) j ≡ pos 0
 part-unit_other i j other = get_or-set_other zero_vector i j (pos 1) (pos 0) other ∙ part-zero_vector j
 
-plus_is : (p : Problem) (i : ℕ) → IsDirectionTable p.game.players p.directions → i < p.game.players → direction p (plus_axis i) ≡ unit_vector i
+pub plus_is : (p : Problem) (i : ℕ) → IsDirectionTable p.game.players p.directions → i < p.game.players → direction p (plus_axis i) ≡ unit_vector i
 plus_is p i ok player = direction_is p (plus_axis i) (omega (arith, ok.has_axes)) ∙ ok.plus_axis i player
 
-minus_is : (p : Problem) (i : ℕ) → IsDirectionTable p.game.players p.directions → i < p.game.players → direction p (minus_axis i) ≡ negative (unit_vector i)
+pub minus_is : (p : Problem) (i : ℕ) → IsDirectionTable p.game.players p.directions → i < p.game.players → direction p (minus_axis i) ≡ negative (unit_vector i)
 minus_is p i ok player = direction_is p (minus_axis i) (omega (arith, ok.has_axes)) ∙ ok.minus_axis i player
 
 -- a sum that is weighted by plus axis i is its term i

@@ -9,11 +9,11 @@ use Rattle.exact_algebra.specs.Poly.{var, lit, neg, ◌⊕◌, ◌⊗◌}
 use Rattle.exact_algebra.proofs.Normal.{ring}
 use Rattle.exact_algebra.proofs.Order.{at_most_trans, times_at_most, plus_at_most, at_most_self, at_most_from_times}
 use Rattle.direction_set.specs.DirectionTable.{IsDirectionTable, zero_vector}
-use Rattle.game_model.specs.Game.{counts, profile_count, payoff_at, successor}
+use Rattle.game_model.specs.Game.{counts, profile_count, payoff_at, successor, reached, IsDeviation}
 use Rattle.game_model.specs.SelfGeneration.{part, dot}
 use Rattle.level_table.specs.declared.level.Level.TheVariants.{At}
 use Rattle.level_table.specs.Problem.{Problem, direction_count, direction, plus_axis, minus_axis, discount_at}
-use Rattle.level_table.specs.Levels.{Levels}
+use Rattle.level_table.specs.Levels.{Levels, IsNumber}
 use Rattle.level_table.specs.Operator.{Fractions, Admissible, value}
 use Rattle.solve_run.specs.Axes.{KeepsAxis, IsInterval, IsKnown, IsSide, IsBetween, IsBox, IsBest, IsBestOf, IsHighEnd, HasSmallParts, HasAdmissible, part_of, stage_scale_of}
 use Rattle.solve_run.proofs.AxisSums.{sum_plus_axis, sum_minus_axis}
@@ -42,7 +42,7 @@ keeps_axis p t s a i y ok player h = record {
 }
 
 -- what all players' parts keep is each half-plane
-half_plane : (p : Problem) (t : Levels) (s a k : ℕ) (x : ℤ) (y : Fractions) → HasAxes p
+pub half_plane : (p : Problem) (t : Levels) (s a k : ℕ) (x : ℤ) (y : Fractions) → HasAxes p
     → ((i : ℕ) → i < p.game.players → KeepsAxis p t s a i (part y.numerators i) y.denominator)
     → k < direction_count p → t (successor p.game s a) k ≡ At x → AxisOf k
     → dot p.game.players (direction p k) y.numerators ≤ℤ (x *ℤ y.denominator)
@@ -67,25 +67,32 @@ axis_of k = elim (halves k) [
       | inr e ↦ inr (let ne : n % 2 ≢ 0 = e in omega arith)
     ]
 
-pub box_of_sides : (p : Problem) (t : Levels) (s a : ℕ) (low high : List ℤ) → HasAxes p → IsKnown p t (successor p.game s a)
-    → ((i : ℕ) → i < p.game.players → IsSide p t s a i (part_of low i) (part_of high i)) → IsBox p t s a low high
-box_of_sides p t s a low high ok known sides = record {
+pub box_of_intervals : (p : Problem) (t : Levels) (s a : ℕ) (low high : List ℤ) → HasAxes p → IsKnown p t (successor p.game s a)
+    → ((i b k : ℕ) → IsDeviation p.game s a i b → k < direction_count p → IsNumber (t (reached p.game s a i b) k))
+    → ((i : ℕ) → i < p.game.players → IsInterval p t s a i (part_of low i) (part_of high i))
+    → ((i : ℕ) → i < p.game.players → part_of low i ≤ℤ part_of high i) → IsBox p t s a low high
+box_of_intervals p t s a low high ok next reach intervals order = record {
   inside = λ y positive between.
       let keeps : (i : ℕ) → i < p.game.players → KeepsAxis p t s a i (part y.numerators i) y.denominator =
-      λ i player. (sides i player).interval.inside (part y.numerators i) y.denominator positive (between i player).from_low (between i player).to_high in
+      λ i player. (intervals i player).inside (part y.numerators i) y.denominator positive (between i player).from_low (between i player).to_high in
       record {
         positive = positive;
-        next_known = known;
-        reached_known = λ i b k d within. (sides i d.player).reached_known b k d within;
+        next_known = next;
+        reached_known = reach;
         half_planes = λ k x within e. half_plane p t s a k x y ok keeps within e (axis_of k);
         incentives = λ i b x d e. (keeps i d.player).incentives b x d e;
       };
   needed = λ y h i player. record {
-    from_low = (sides i player).interval.low_is_needed (part y.numerators i) y.denominator h.positive (keeps_axis p t s a i y ok player h);
-    to_high = (sides i player).interval.high_is_needed (part y.numerators i) y.denominator h.positive (keeps_axis p t s a i y ok player h);
+    from_low = (intervals i player).low_is_needed (part y.numerators i) y.denominator h.positive (keeps_axis p t s a i y ok player h);
+    to_high = (intervals i player).high_is_needed (part y.numerators i) y.denominator h.positive (keeps_axis p t s a i y ok player h);
   };
-  nonempty = λ i player. (sides i player).nonempty;
+  nonempty = order;
 }
+
+pub box_of_sides : (p : Problem) (t : Levels) (s a : ℕ) (low high : List ℤ) → HasAxes p → IsKnown p t (successor p.game s a)
+    → ((i : ℕ) → i < p.game.players → IsSide p t s a i (part_of low i) (part_of high i)) → IsBox p t s a low high
+box_of_sides p t s a low high ok known sides = box_of_intervals p t s a low high ok known
+    (λ i b k d within. (sides i d.player).reached_known b k d within) (λ i player. (sides i player).interval) (λ i player. (sides i player).nonempty)
 
 -- an interval without a number admits nothing
 pub nothing_between : (p : Problem) (t : Levels) (s a i : ℕ) (low high : ℤ) (y : Fractions) → HasAxes p → i < p.game.players
@@ -212,13 +219,13 @@ sides_more p t s a n low high l h below before side =
 one_times : (x : ℤ) → x *ℤ pos 1 ≡ x
 one_times x = ring (x ∷ []) (var 0 ⊗ lit (pos 1)) (var 0) refl
 
-corner_part : (low high num : List ℤ) (j : ℕ) → part_of low j ≤ℤ part_of num j → part_of num j ≤ℤ part_of high j → IsBetween low high (record { numerators = num; denominator = pos 1 }) j
+pub corner_part : (low high num : List ℤ) (j : ℕ) → part_of low j ≤ℤ part_of num j → part_of num j ≤ℤ part_of high j → IsBetween low high (record { numerators = num; denominator = pos 1 }) j
 corner_part low high num j l h = record {
   from_low = rw (one_times (part_of low j)) l;
   to_high = rw (one_times (part_of high j)) h;
 }
 
-low_corner : (p : Problem) (t : Levels) (s a : ℕ) (low high : List ℤ) → IsBox p t s a low high → (j : ℕ) → j < p.game.players → IsBetween low high (record { numerators = low; denominator = pos 1 }) j
+pub low_corner : (p : Problem) (t : Levels) (s a : ℕ) (low high : List ℤ) → IsBox p t s a low high → (j : ℕ) → j < p.game.players → IsBetween low high (record { numerators = low; denominator = pos 1 }) j
 low_corner p t s a low high box j player = corner_part low high low j (at_most_self (part_of low j)) (box.nonempty j player)
 
 high_corner : (p : Problem) (t : Levels) (s a i : ℕ) (low high num : List ℤ) → IsBox p t s a low high → IsHighEnd low high i num

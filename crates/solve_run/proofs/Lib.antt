@@ -1,9 +1,14 @@
 pub mod AxisSums
 pub mod Boxes
+pub mod Certificates
+pub mod Completeness
 pub mod Counts
+pub mod Drops
+pub mod Existence
 pub mod Farthest
 pub mod FractionLemmas
 pub mod Intervals
+pub mod Naming
 pub mod PlainLemmas
 pub mod ReportLemmas
 pub mod Reporting

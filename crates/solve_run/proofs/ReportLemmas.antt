@@ -9,7 +9,8 @@ use Rattle.game_model.specs.SelfGeneration.{part}
 use Rattle.solve_run.specs.declared.report.Support.{Support}
 use Rattle.solve_run.specs.declared.report.Verdict.{Verdict}
 use Rattle.solve_run.specs.declared.report.Report.{Report}
-use Rattle.solve_run.specs.ReportText.{blanked, line, texts_below, status_word, rows_of, row_line, row_words, discount_at, AreEqual, AreTexts, IsFractionWord, AreFractionWords, AreDiscountWords, IsHead, IsPointLine, IsVerdictText, IsReportText}
+use Rattle.level_table.specs.declared.reason.Item.{Item}
+use Rattle.solve_run.specs.ReportText.{blanked, item_words, items_words, notes_text, line, texts_below, status_word, rows_of, row_line, row_words, discount_at, AreEqual, AreTexts, IsFractionWord, AreFractionWords, AreDiscountWords, IsHead, IsPointLine, IsVerdictText, IsReportText}
 
 pub blanked-append : (vs ws : List (List ℕ)) → blanked (vs ++ ws) ≡ blanked vs ++ blanked ws
 blanked-append [] ws = refl
@@ -85,14 +86,27 @@ pub line_from_words : (o x1 x2 x3 name : List ℕ) (words : List (List ℕ)) →
 line_from_words o x1 x2 x3 name words e1 e2 e3 = e3 ∙ ap (λ t. t ++ 10 ∷ []) (e2 ∙ ap (λ t. t ++ blanked words) e1) ∙ assoc_line o name (blanked words)
 
 -- the text of a report from its parts
-pub report_from_parts : (r : Report) (x1 x2 x3 x4 head verdict : List ℕ) → IsHead r head → IsVerdictText r r.verdict verdict → x1 ≡ head → x2 ≡ x1 ++ texts_below (row_line r) (rows_of r) → x3 ≡ x2 ++ verdict → x4 ≡ x3 ++ line (codes "end") [] → IsReportText r x4
-report_from_parts r x1 x2 x3 x4 head verdict h v e1 e2 e3 e4 = record {
+pub report_from_parts : (r : Report) (x1 x2 x3 x4 x5 head verdict : List ℕ) → IsHead r head → IsVerdictText r r.verdict verdict → x1 ≡ head → x2 ≡ x1 ++ texts_below (row_line r) (rows_of r) → x3 ≡ x2 ++ verdict → x4 ≡ x3 ++ notes_text r.notes → x5 ≡ x4 ++ line (codes "end") [] → IsReportText r x5
+report_from_parts r x1 x2 x3 x4 x5 head verdict h v e1 e2 e3 e4 e5 = record {
   head = head;
   verdict = verdict;
   is_head = h;
   is_verdict = v;
-  parts = e4 ∙ ap (λ t. t ++ line (codes "end") []) (e3 ∙ ap (λ t. t ++ verdict) (e2 ∙ ap (λ t. t ++ texts_below (row_line r) (rows_of r)) e1));
+  parts = e5 ∙ ap (λ t. t ++ line (codes "end") []) (e4 ∙ ap (λ t. t ++ notes_text r.notes) (e3 ∙ ap (λ t. t ++ verdict) (e2 ∙ ap (λ t. t ++ texts_below (row_line r) (rows_of r)) e1)));
 }
+
+items_words-push : (xs : List Item) (x : Item) → items_words (xs ++ x ∷ []) ≡ items_words xs ++ item_words x
+items_words-push [] x = append-nil (item_words x)
+items_words-push (y ∷ ys) x = ap (λ t. item_words y ++ t) (items_words-push ys x) ∙ sym (append_assoc (item_words y) (items_words ys) (item_words x))
+
+-- rows of a certificate so far, and one more
+pub items_more : (old now new : List ℕ) (xs : List Item) (i : ℕ) (x : Item) → i < length xs → x ≡ get_or xs i x
+    → now ≡ old ++ blanked (items_words (take i xs)) → new ≡ now ++ blanked (item_words x) → new ≡ old ++ blanked (items_words (take (i + 1) xs))
+items_more old now new xs i x l e h k =
+    let step : items_words (take (i + 1) xs) ≡ items_words (take i xs) ++ item_words x =
+    ap items_words (take_more xs i x l ∙ ap (λ y. take i xs ++ y ∷ []) (sym e)) ∙ items_words-push (take i xs) x in
+    k ∙ ap (λ t. t ++ blanked (item_words x)) h ∙ append_assoc old (blanked (items_words (take i xs))) (blanked (item_words x))
+    ∙ ap (λ t. old ++ t) (sym (blanked-append (items_words (take i xs)) (item_words x)) ∙ ap blanked (sym step))
 
 pub solves_fit : (sweeps rows : ℕ) → sweeps < 2 ^ 64 → rows < 2 ^ 32 → sweeps * rows < 2 ^ 128
 solves_fit sweeps rows h k = let p : sweeps * rows ≤ 2 ^ 64 * 2 ^ 32 = mul-le sweeps rows (2 ^ 64) (2 ^ 32) (omega arith) (omega arith) in omega arith

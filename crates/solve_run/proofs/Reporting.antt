@@ -1,5 +1,6 @@
 -- the problem of a plain game, and what a run's end says of its report
 use Rattle.std.proofs.Common.{◌≡◌, ℕ, zero, suc, ◌*◌, ◌/◌, ◌^◌, ◌<◌, ◌≤◌, List, [], ◌∷◌, length, All, Option, Some, None, sym, ap, ◌∙◌, subst, arith, ℤ, pos, ◌*ℤ◌, FitsSigned}
+use Rattle.std.specs.Prelude.{slice_index}
 use Rattle.std.specs.Int.RustNames.{unsigned_abs}
 use Rattle.std.specs.Option.{option_to_list}
 use Rattle.std.proofs.Math.Nat.{mul-le-mul}
@@ -18,17 +19,20 @@ use Rattle.level_table.specs.Tables.{problem_of}
 use Rattle.level_table.proofs.Sizes.{abs_between, abs_product, fineness_small, payoff_small}
 use Rattle.bound_laws.specs.Laws.{IsProblem}
 use Rattle.bound_laws.proofs.Bounding.{kept_bounds}
+use Rattle.bound_laws.proofs.Notes.{notes_above_bound}
 use Rattle.bound_laws.proofs.Start.{opening_has_bounds}
 use Rattle.solve_run.specs.Axes.{IsAxisProblem, HasSmallParts}
 use Rattle.solve_run.specs.PlainGame.{IsSmallDiscount, plain_game, axes_of_two}
 use Rattle.solve_run.specs.Sweeps.{IsRunTable, IsVerdict, AreSupports, IsRowVerdict}
+use Rattle.solve_run.proofs.Naming.{named_rows}
 use Rattle.solve_run.specs.Solved.{IsEnd, IsReportOf, IsSupportedVerdict}
-use Rattle.solve_run.specs.ReportText.{IsPrintable, IsPrintableVerdict, IsFraction, rows_of}
+use Rattle.solve_run.specs.ReportText.{IsPrintable, IsPrintableVerdict, IsFraction, discount_at, rows_of}
 use Rattle.solve_run.specs.declared.report.Report.{Report}
 use Rattle.solve_run.specs.declared.report.Support.{Support}
 use Rattle.solve_run.specs.declared.report.Verdict.{Verdict}
 use Rattle.solve_run.specs.declared.report.Verdict.TheVariants.{Supported, Unsupported}
 use Rattle.solve_run.specs.declared.settle.RowVerdict.TheVariants.{Fine}
+use Rattle.solve_run.proofs.Drops.{enough_settles}
 
 pub axis_problem : (g : DynamicGame) (d : DirectionTable) (n : Nfg) (p q grid : ℕ) → IsGame g → g ≡ plain_game n p q → IsSmallDiscount p q → d ≡ axes_of_two → IsDirectionTable 2 d.vectors → length d.vectors ≡ 4 → grid ≤ 4 → IsAxisProblem g d grid
 axis_problem g d n p q grid ok same small axes table count few =
@@ -64,20 +68,25 @@ greatest_if p slack t (Supported supports) run verdict one settled = record {
 }
 greatest_if p slack t (Unsupported row level reached) run verdict one settled = absurd settled
 
-pub report_is : (g : DynamicGame) (d : DirectionTable) (grid slack budget : ℕ) (r : Report) → IsAxisProblem g d grid → r.players ≡ g.players → r.states ≡ states g → r.directions ≡ length d.vectors → r.unit ≡ unit_of g grid → r.slack ≡ slack
-    → IsEnd (problem_of g d grid) slack (budget / length r.levels.levels) r.levels r.sweeps r.verdict → IsReportOf (problem_of g d grid) slack budget r
-report_is g d grid slack budget r problem players count directions unit slack_is end =
+pub report_is : (g : DynamicGame) (d : DirectionTable) (grid slack budget : ℕ) (r : Report) → IsAxisProblem g d grid → r.players ≡ g.players → r.states ≡ states g → r.directions ≡ length d.vectors → length r.discounts ≡ g.players → ((i : ℕ) → i < g.players → discount_at r.discounts i ≡ (slice_index g.discounts i, g.q)) → r.unit ≡ unit_of g grid → r.slack ≡ slack
+    → IsEnd (problem_of g d grid) slack (budget / length r.levels.levels) r.levels r.notes r.sweeps r.verdict → IsReportOf (problem_of g d grid) slack budget r
+report_is g d grid slack budget r problem players count directions one_each discounts unit slack_is end =
     let p : Problem = problem_of g d grid in
     let ok : IsProblem p = record { game = problem.game; directions = problem.table } in
     record {
       players = players;
       states_shown = count;
       directions = directions;
+      one_discount_each = one_each;
+      discounts = discounts;
       unit = unit;
       slack_shown = slack_is;
       bounds = kept_bounds p (opening_table p) (levels_in r.levels) ok (opening_has_bounds p ok) end.run.kept;
+      notes = notes_above_bound p (opening_table p) r.notes ok (opening_has_bounds p ok) end.noted.kept;
+      named = named_rows p (levels_in r.levels) r.notes ok end.run.even end.noted;
       end = end;
       greatest = λ one settled. greatest_if p slack r.levels r.verdict end.run end.is_verdict one settled;
+      enough = enough_settles p slack budget r.levels r.notes r.sweeps r.verdict end;
     }
 
 -- numbers within 2^50 of zero are within the limits of 128 bits
@@ -110,7 +119,7 @@ printable_verdict p slack r (Supported supports) rows verdict = printable_all p 
 printable_verdict p slack r (Unsupported row level reached) rows verdict = omega (arith, rows, verdict.0)
 
 pub report_prints : (g : DynamicGame) (d : DirectionTable) (grid slack most : ℕ) (r : Report) → IsAxisProblem g d grid → r.players ≡ g.players → r.states ≡ states g → r.directions ≡ length d.vectors
-    → IsEnd (problem_of g d grid) slack most r.levels r.sweeps r.verdict → length r.discounts ≡ g.players → All (λ d. 0 < d.1) r.discounts → IsPrintable r
+    → IsEnd (problem_of g d grid) slack most r.levels r.notes r.sweeps r.verdict → length r.discounts ≡ g.players → All (λ d. 0 < d.1) r.discounts → IsPrintable r
 report_prints g d grid slack most r problem players count directions end each positive =
     let states_same : r.levels.states ≡ r.states = end.run.table.sizes.states_agree ∙ sym count in
     let directions_same : r.levels.directions ≡ r.directions = end.run.table.sizes.directions_agree ∙ sym directions in

@@ -134,12 +134,12 @@ pub value_kept : (p : Problem) (best : Best) → p.game.q ≤ 1024 → IsSmallBe
 value_kept p best few small = to_z-of_z w128 best.value (fits_signed_from_abs w128 best.value (let h : unsigned_abs best.value ≤ p.game.q * 2 ^ 50 = small.value_small in omega arith))
 
 -- a value over q is at most the ceiling over the denominator of its vector
-reached_by : (x v level q d : ℤ) → pos 0 <ℤ d → x ≤ℤ (v *ℤ d) → v ≤ℤ (level *ℤ q) → x ≤ℤ (level *ℤ (q *ℤ d))
+pub reached_by : (x v level q d : ℤ) → pos 0 <ℤ d → x ≤ℤ (v *ℤ d) → v ≤ℤ (level *ℤ q) → x ≤ℤ (level *ℤ (q *ℤ d))
 reached_by x v level q d positive h k =
     let e : level *ℤ (q *ℤ d) ≡ (level *ℤ q) *ℤ d = ring (level ∷ q ∷ d ∷ []) (var 0 ⊗ (var 1 ⊗ var 2)) ((var 0 ⊗ var 1) ⊗ var 2) refl in
     rw e (at_most_trans x (v *ℤ d) ((level *ℤ q) *ℤ d) h (times_right v (level *ℤ q) d positive k))
 
-above_less : (x v level q d : ℤ) → pos 0 <ℤ d → x ≡ v *ℤ d → (level *ℤ q) <ℤ v → (level *ℤ (q *ℤ d)) <ℤ x
+pub above_less : (x v level q d : ℤ) → pos 0 <ℤ d → x ≡ v *ℤ d → (level *ℤ q) <ℤ v → (level *ℤ (q *ℤ d)) <ℤ x
 above_less x v level q d positive is k =
     let e : level *ℤ (q *ℤ d) ≡ (level *ℤ q) *ℤ d = ring (level ∷ q ∷ d ∷ []) (var 0 ⊗ (var 1 ⊗ var 2)) ((var 0 ⊗ var 1) ⊗ var 2) refl in
     rw (e, is) (below_right (level *ℤ q) v d positive k)

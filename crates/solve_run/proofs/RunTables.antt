@@ -9,21 +9,23 @@ use mir.Syntax.{w64}
 use mir.Val.{to_z, of_z}
 use Rattle.std.proofs.lemmas.List.{get_or-set_same, get_or-set_other, length-set}
 use Rattle.std.proofs.lemmas.Nat.{same_from_place, mul-add-lt}
+use Rattle.direction_set.specs.DirectionTable.{opposite_of}
 use Rattle.game_model.specs.Game.{states, counts, profile_count}
 use Rattle.level_table.specs.declared.level.Level.{Level}
 use Rattle.level_table.specs.declared.level.Level.TheVariants.{Empty, At}
-use Rattle.level_table.specs.Problem.{Problem, direction_count}
+use Rattle.level_table.specs.Problem.{Problem, direction_count, opening_level}
 use Rattle.level_table.specs.Levels.{Levels, Table, IsRow, IsBelow, IsNumber, IsSmall, AtMost, levels_in, level_at, opening_table}
 use Rattle.level_table.specs.Tables.{IsWhole}
 use Rattle.level_table.specs.Operator.{Admissible, IsRowLevel, HasValueAbove}
 use Rattle.level_table.specs.Supported.{IsEven, IsSupported}
-use Rattle.level_table.specs.Start.{IsAboveSupported}
+use Rattle.level_table.specs.Start.{IsAboveSupported, IsBetween}
 use Rattle.level_table.proofs.Sizes.{between_abs, abs_between}
-use Rattle.bound_laws.specs.Laws.{IsProblem, KeepsSupported}
+use Rattle.bound_laws.specs.Laws.{HasRange, IsProblem, KeepsSupported}
 use Rattle.bound_laws.proofs.Levels.{level_at_most_trans, level_at_most_self, at_most_lesser}
+use Rattle.bound_laws.proofs.Opening.{row_level_is_between}
 use Rattle.bound_laws.proofs.Operator.{admissible_grows, row_levels_grow, supported_at_most_row_level}
 use Rattle.solve_run.specs.Axes.{IsSmallTable, HasAdmissible}
-use Rattle.solve_run.specs.Sweeps.{IsRunTable, IsLowered, IsPassed, IsStep, IsSwept}
+use Rattle.solve_run.specs.Sweeps.{IsRunTable, IsLowered, IsPassed, IsStep, IsSwept, StaysNumber}
 
 -- ---- levels
 pub empty_from_at_most : (l : Level) → AtMost l Empty → l ≡ Empty
@@ -81,6 +83,19 @@ lowered_small p t s k (At z) (x, e, how) n =
     (omega (arith, ints, clamps, b.3, old.0, old.1, range.0, range.1), omega (arith, ints, clamps, b.3, old.0, old.1, range.0, range.1)))
     how
 
+lesser_between : (low high x m : ℤ) → (low ≤ℤ x) × (x ≤ℤ high) → (low ≤ℤ m) × (m ≤ℤ high) → (low ≤ℤ int_min x m) × (int_min x m ≤ℤ high)
+lesser_between low high x m a b = (omega (arith, ints, clamps, a.0, b.0), omega (arith, ints, clamps, a.1, b.1))
+
+lowered_between : (p : Problem) (t : Levels) (s k : ℕ) (l : Level) → IsProblem p → IsRow p s k → IsBelow p t (opening_table p) → IsBetween p k (t s k) → IsLowered p t s k l → IsBetween p k l
+lowered_between p t s k Empty problem row below range h = tt
+lowered_between p t s k (At z) problem row below range (x, e, how) =
+    let old : IsBetween p k (At x) = subst (IsBetween p k) e range in
+    ⊎_elim
+    (λ (a : IsRowLevel p t s k Empty × (z ≡ x)). subst (λ (w : ℤ). IsBetween p k (At w)) (sym a.1) old)
+    (λ (b : (m : ℤ) × IsRowLevel p t s k (At m) × (unsigned_abs m ≤ 2 ^ 50) × (z ≡ int_min x m)).
+    subst (λ (w : ℤ). IsBetween p k (At w)) (sym b.3) (lesser_between (neg_ℤ (opening_level p (opposite_of k))) (opening_level p k) x b.0 old (row_level_is_between p t s k (At b.0) problem below row b.1)))
+    how
+
 lowered_kept : (p : Problem) (start t : Levels) (s k : ℕ) (l : Level) → IsProblem p → IsRow p s k → KeepsSupported p start t → IsLowered p t s k l → IsAboveSupported p start s k l
 lowered_kept p start t s k Empty problem row kept h u below supported = subst (λ (m : Level). AtMost (u s k) m) h (kept s k row u below supported)
 lowered_kept p start t s k (At z) problem row kept (x, e, how) u below supported =
@@ -102,6 +117,7 @@ record Lowers (p : Problem) (t v : Table) : Type 0 where
   pub at_most : IsBelow p (levels_in v) (levels_in t)
   pub small : (s k : ℕ) → IsRow p s k → IsSmall (levels_in v s k)
   pub even : IsEven p (levels_in v)
+  pub range : HasRange p (levels_in v)
   pub kept : KeepsSupported p (opening_table p) (levels_in v)
 
 step_from : (p : Problem) (t v : Table) → IsRunTable p t → Lowers p t v → IsStep p t v
@@ -117,6 +133,7 @@ step_from p t v run h = record {
     };
     even = h.even;
     below = λ s k row. level_at_most_trans _ _ _ (h.at_most s k row) (run.below s k row);
+    range = h.range;
     kept = h.kept;
   };
   below = h.at_most;
@@ -151,6 +168,7 @@ lowered_step p t s k l problem run row h =
       small = by_place p t v s k l here at (λ s' k' m. IsSmall m) (lowered_small p (levels_in t) s k l h (run.table.small s k row)) (λ s' k' row'. run.table.small s' k' row');
       even = even_kept p (levels_in t) (levels_in v) run.even at_most
           (by_place p t v s k l here at (λ s' k' m. IsNumber (levels_in t s' k') → IsNumber m) (lowered_number p (levels_in t) s k l h) (λ s' k' row' n. n));
+      range = by_place p t v s k l here at (λ s' k' m. IsBetween p k' m) (lowered_between p (levels_in t) s k l problem row run.below (run.range s k row) h) (λ s' k' row'. run.range s' k' row');
       kept = by_place p t v s k l here at (λ s' k' m. IsAboveSupported p (opening_table p) s' k' m) (lowered_kept p (opening_table p) (levels_in t) s k l problem row run.kept h) (λ s' k' row'. run.kept s' k' row');
     })
   where
@@ -161,6 +179,19 @@ lowered_step p t s k l problem run row h =
         (λ (e : (s' ≡ s) × (k' ≡ k)). subst (λ (i : ℕ). P i k' (levels_in v i k')) (sym e.0) (subst (λ (j : ℕ). P s j (levels_in v s j)) (sym e.1) (subst (P s k) (sym here) lowered)))
         (λ (e : levels_in v s' k' ≡ levels_in t s' k'). subst (P s' k') (sym e) (others s' k' row'))
         (at s' k' row')
+
+-- a lowered number is one
+pub lowered_stays : (p : Problem) (t v : Table) (s k n : ℕ) (l : Level) → IsRunTable p t → IsRow p s k → IsLowered p (levels_in t) s k l → n ≡ t.directions → v ≡ with_level t (s * n + k) l
+    → StaysNumber p (levels_in t) (levels_in v)
+lowered_stays p t v s k n l run row h e is s' k' row' number =
+    subst (λ (w : Table). IsNumber (levels_in w s' k')) (sym (is ∙ ap (λ (d : ℕ). with_level t (s * d + k) l) e))
+    (⊎_elim
+    (λ (same : (s' ≡ s) × (k' ≡ k)).
+    let old : IsNumber (levels_in t s k) = subst (λ (j : ℕ). IsNumber (levels_in t s j)) same.1 (subst (λ (i : ℕ). IsNumber (levels_in t i k')) same.0 number) in
+    let new : IsNumber (levels_in (with_level t (s * t.directions + k) l) s k) = subst IsNumber (sym (level_here p t s k l run.table row)) (lowered_number p (levels_in t) s k l h old) in
+    subst (λ (i : ℕ). IsNumber (levels_in (with_level t (s * t.directions + k) l) i k')) (sym same.0) (subst (λ (j : ℕ). IsNumber (levels_in (with_level t (s * t.directions + k) l) s j)) (sym same.1) new))
+    (λ (there : levels_in (with_level t (s * t.directions + k) l) s' k' ≡ levels_in t s' k'). subst IsNumber (sym there) number)
+    (level_there p t s k l s' k' run.table row row'))
 
 -- ---- rows that were passed
 pub dead_below : (p : Problem) (t v : Levels) (s k : ℕ) → IsProblem p → s < states p.game → IsBelow p v t → IsRowLevel p t s k Empty → IsRowLevel p v s k Empty
@@ -212,6 +243,9 @@ cleared_step p t v s problem run known dead whole states_same directions_same cl
           (λ (e : s' ≡ s). inl (λ k dir. subst (λ (i : ℕ). levels_in v i k ≡ Empty) (sym e) (cleared k (omega (arith, dir, run.table.sizes.directions_agree)))))
           (λ (ne : s' ≡ s → ⊥). even_there s' known' ne (run.even s' known'))
           (cases_eq s' s);
+      range = λ s' k' row'. ⊎_elim
+          (λ (e : (s' ≡ s) × (levels_in v s' k' ≡ Empty)). subst (IsBetween p k') (sym e.1) tt)
+          (λ (e : levels_in v s' k' ≡ levels_in t s' k'). subst (IsBetween p k') (sym e) (run.range s' k' row')) (at s' k' row');
       kept = λ s' k' row' u below supported. ⊎_elim
           (λ (e : (s' ≡ s) × (levels_in v s' k' ≡ Empty)). subst (λ (n : Level). AtMost (u s' k') n) (sym e.1) (none_left s' k' row' u below supported e.0 (u s' k') refl))
           (λ (e : levels_in v s' k' ≡ levels_in t s' k'). subst (λ (n : Level). AtMost (u s' k') n) (sym e) (run.kept s' k' row' u below supported)) (at s' k' row');
@@ -313,12 +347,12 @@ passed_more p entry t i n all before here s k below dir =
     (λ (ge : i ≤ s). let e : i ≡ s = omega arith in subst (λ (j : ℕ). IsPassed p entry t j k) e (here k (omega arith)))
     (cases_lt s i)
 
-pub swept : (p : Problem) (t u v : Table) → IsBelow p (levels_in u) (levels_in t) → ((s k : ℕ) → s < states p.game → k < direction_count p → IsPassed p (levels_in t) (levels_in u) s k)
+pub swept : (p : Problem) (t u v : Table) → IsBelow p (levels_in u) (levels_in t) → ((above : Levels) → IsBelow p (levels_in t) above → (s k : ℕ) → s < states p.game → k < direction_count p → IsPassed p above (levels_in u) s k)
     → IsStep p u v → ((s k : ℕ) → s < states p.game → k < direction_count p → IsRowLevel p (levels_in u) s k Empty → levels_in v s k ≡ Empty) → IsSwept p t v
 swept p t u v below passed step cleared = record {
   step = step_then p t u v below step;
-  passed = λ s k l row level. ⊎_elim
+  passed = λ above s k l under row level. ⊎_elim
       (λ (h : AtMost (levels_in u s k) l). level_at_most_trans _ _ _ (step.below s k row) h)
       (λ (dead : IsRowLevel p (levels_in u) s k Empty). subst (λ (m : Level). AtMost m l) (sym (cleared s k row.state row.direction dead)) tt)
-      (passed s k row.state row.direction l level);
+      (passed above under s k row.state row.direction l level);
 }

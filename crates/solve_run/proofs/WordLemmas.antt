@@ -2,7 +2,7 @@
 use Rattle.std.proofs.Common.{◌≡◌, ◌⊎◌, ℕ, zero, suc, ◌+◌, ◌*◌, ◌-◌, ◌^◌, ◌<◌, ◌≤◌, ◌++◌, List, [], ◌∷◌, length, get_or, take, drop, true, false, ◌&&◌, Option, Some, None, Bor, refl, sym, ap, subst, ◌∙◌, arith, ⊎_elim, inl, inr, append_assoc, lit<, Result, below_more}
 use Rattle.std.specs.Prelude.{codes, nat_eq}
 use Rattle.std.specs.Option.{MatchOption, IfSome, IfNone, ok_or}
-use Rattle.std.specs.Result.{IfErr}
+use Rattle.std.specs.Result.{IfErr, OnOk}
 use Rattle.std.specs.Cmp.Lexicographic.{pointwise}
 use Rattle.std.proofs.Math.Nat.{pow-suc, pow-le-pow_right}
 use Rattle.std.proofs.Math.Seq.{get_or-append_seam}
@@ -11,7 +11,7 @@ use Rattle.std.proofs.lemmas.Bool.{cases_lt}
 use Rattle.std.proofs.lemmas.Bool.Decides.{nat_tests, Decides-eqb}
 use Rattle.std.proofs.lemmas.Slice.Eq.{strip_prefix_is}
 use Rattle.nfg_text.specs.PlainFile.{is_digit, all_digits, digits_value}
-use Rattle.solve_run.specs.Words.{IsDigits, IsRatioText, IsDiscountWord, IsGridWord, FitsAt, FitsBelow, IsMisfit, IsSolve, word_at}
+use Rattle.solve_run.specs.Words.{IsDigits, IsRatioText, IsDiscountWord, IsGridWord, IsBudgetWord, IsBudgetOf, FitsAt, FitsBelow, IsMisfit, IsSolve, word_at}
 use Rattle.solve_run.specs.declared.words.Settings.{Settings}
 
 pub is_digit_true : (b : ℕ) → 48 ≤ b → b ≤ 57 → is_digit b ≡ true
@@ -118,9 +118,6 @@ discount_of_ratio word rest p r e h a b c = record {
   small = c;
 }
 
-pub digits_of_grid : (word rest : List ℕ) (n : ℕ) → word ≡ codes "grid=" ++ rest → IsGridWord word n → IsDigits 18 rest n
-digits_of_grid word rest n e h = subst (λ t. IsDigits 18 t n) (append_cancel_left (codes "grid=") h.number rest (sym h.shape ∙ e)) h.digits
-
 -- which words fit where
 no_number : {P : Type 0} (i j : ℕ) → i ≡ j → (i < j) ⊎ (j < i) → P
 no_number i j e l = absurd (omega arith)
@@ -138,7 +135,10 @@ fits_discount w P f h = elim h [
           | inl a ↦ no_number 2 4 a.0 (inl (lit< tt))
           | inr b ↦ elim b [
             | inl a ↦ no_number 2 5 a.0 (inl (lit< tt))
-            | inr a ↦ no_number 2 6 a.0 (inl (lit< tt))
+            | inr b ↦ elim b [
+              | inl a ↦ no_number 2 6 a.0 (inl (lit< tt))
+              | inr a ↦ no_number 2 7 a.0 (inl (lit< tt))
+            ]
           ]
         ]
       ]
@@ -159,7 +159,10 @@ fits_grid w P f h = elim h [
           | inl a ↦ f a.1 a.2
           | inr b ↦ elim b [
             | inl a ↦ no_number 4 5 a.0 (inl (lit< tt))
-            | inr a ↦ no_number 4 6 a.0 (inl (lit< tt))
+            | inr b ↦ elim b [
+              | inl a ↦ no_number 4 6 a.0 (inl (lit< tt))
+              | inr a ↦ no_number 4 7 a.0 (inl (lit< tt))
+            ]
           ]
         ]
       ]
@@ -167,20 +170,23 @@ fits_grid w P f h = elim h [
   ]
 ]
 
-pub fits_no_more : (w : List ℕ) (i : ℕ) → 7 ≤ i → FitsAt i w → ⊥
-fits_no_more w i l h = elim h [
-  | inl a ↦ no_number i 0 a.0 (inr (omega arith))
+pub fits_budget : (w : List ℕ) (P : Type 0) → ((n : ℕ) → IsBudgetWord w n → P) → FitsAt 7 w → P
+fits_budget w P f h = elim h [
+  | inl a ↦ no_number 7 0 a.0 (inr (lit< tt))
   | inr b ↦ elim b [
-    | inl a ↦ no_number i 1 a (inr (omega arith))
+    | inl a ↦ no_number 7 1 a (inr (lit< tt))
     | inr b ↦ elim b [
-      | inl a ↦ no_number i 2 a.0 (inr (omega arith))
+      | inl a ↦ no_number 7 2 a.0 (inr (lit< tt))
       | inr b ↦ elim b [
-        | inl a ↦ no_number i 3 a.0 (inr (omega arith))
+        | inl a ↦ no_number 7 3 a.0 (inr (lit< tt))
         | inr b ↦ elim b [
-          | inl a ↦ no_number i 4 a.0 (inr (omega arith))
+          | inl a ↦ no_number 7 4 a.0 (inr (lit< tt))
           | inr b ↦ elim b [
-            | inl a ↦ no_number i 5 a.0 (inr (omega arith))
-            | inr a ↦ no_number i 6 a.0 (inr (omega arith))
+            | inl a ↦ no_number 7 5 a.0 (inr (lit< tt))
+            | inr b ↦ elim b [
+              | inl a ↦ no_number 7 6 a.0 (inr (lit< tt))
+              | inr a ↦ f a.1 a.2
+            ]
           ]
         ]
       ]
@@ -199,26 +205,45 @@ pub ok_or_err : {T E : Type 0} (o : Option T) (e : E) (r : Result T E) (P : E �
 ok_or_err None e r P h k = subst (λ x. IfErr x P) (sym h) k
 ok_or_err (Some x) e r P h k = subst (λ x. IfErr x P) (sym h) tt
 
+pub ok_or_ok : {T E : Type 0} (o : Option T) (e : E) (r : Result T E) (P : T → Type 0) (Q : Type 0) → r ≡ ok_or o e → ((x : T) → P x → Q) → IfSome o P → OnOk r Q
+ok_or_ok None e r P Q h f k = subst (λ x. OnOk x Q) (sym h) tt
+ok_or_ok (Some x) e r P Q h f k = subst (λ x. OnOk x Q) (sym h) (f x k)
+
 pub none_weaker : {T : Type 0} (o : Option T) (P Q : Type 0) → (P → Q) → IfNone o P → IfNone o Q
 none_weaker None P Q f h = f h
 none_weaker (Some x) P Q f h = tt
 
 -- ---- settings and misfits exclude one another
-solve_fits : (words : List (List ℕ)) (set : Settings) → IsSolve words set → (i : ℕ) → i < 7 → FitsAt i (word_at words i)
+budget_fits : (words : List (List ℕ)) (n : ℕ) → IsBudgetOf words n → 7 < length words → FitsAt 7 (word_at words 7)
+budget_fits words n h l =
+    ⊎_elim
+    (λ (a : (length words ≡ 7) × (n ≡ 1000000)). absurd (omega (arith, a.0)))
+    (λ (b : (length words ≡ 8) × IsBudgetWord (word_at words 7) n). inr (inr (inr (inr (inr (inr (inr (refl, n, b.1))))))))
+    h
+
+count_words : (words : List (List ℕ)) (n : ℕ) → IsBudgetOf words n → (7 ≤ length words) × (length words ≤ 8)
+count_words words n h =
+    ⊎_elim
+    (λ (a : (length words ≡ 7) × (n ≡ 1000000)). (omega (arith, a.0), omega (arith, a.0)))
+    (λ (b : (length words ≡ 8) × IsBudgetWord (word_at words 7) n). (omega (arith, b.0), omega (arith, b.0)))
+    h
+
+solve_fits : (words : List (List ℕ)) (set : Settings) → IsSolve words set → (i : ℕ) → i < length words → FitsAt i (word_at words i)
 solve_fits words set h zero l = inl (refl, h.command)
 solve_fits words set h (suc zero) l = inr (inl refl)
 solve_fits words set h (suc (suc zero)) l = inr (inr (inl (refl, h.numerator, h.denominator, h.discount_word)))
 solve_fits words set h (suc (suc (suc zero))) l = inr (inr (inr (inl (refl, h.directions_word))))
 solve_fits words set h (suc (suc (suc (suc zero)))) l = inr (inr (inr (inr (inl (refl, set.grid, h.grid)))))
 solve_fits words set h (suc (suc (suc (suc (suc zero))))) l = inr (inr (inr (inr (inr (inl (refl, h.workers_word))))))
-solve_fits words set h (suc (suc (suc (suc (suc (suc zero)))))) l = inr (inr (inr (inr (inr (inr (refl, h.inner_word))))))
-solve_fits words set h (suc (suc (suc (suc (suc (suc (suc i))))))) l = absurd (omega arith)
+solve_fits words set h (suc (suc (suc (suc (suc (suc zero)))))) l = inr (inr (inr (inr (inr (inr (inl (refl, h.inner_word)))))))
+solve_fits words set h (suc (suc (suc (suc (suc (suc (suc zero))))))) l = budget_fits words set.budget h.budget l
+solve_fits words set h (suc (suc (suc (suc (suc (suc (suc (suc i)))))))) l = absurd (omega (arith, l, count_words words set.budget h.budget))
 
 pub solve_has_no_misfit : (words : List (List ℕ)) (set : Settings) (i : ℕ) → IsSolve words set → IsMisfit words i → ⊥
 solve_has_no_misfit words set i h m =
     ⊎_elim
-    (λ (a : (i ≡ length words) × (i < 7)). let count : length words ≡ 7 = h.count in omega arith)
-    (λ (b : (i < length words) × (FitsAt i (word_at words i) → ⊥)). let count : length words ≡ 7 = h.count in b.1 (solve_fits words set h i (omega arith)))
+    (λ (a : (i ≡ length words) × (i < 7)). omega (arith, a, count_words words set.budget h.budget))
+    (λ (b : (i < length words) × (FitsAt i (word_at words i) → ⊥)). b.1 (solve_fits words set h i b.0))
     m.here
 
 no_earlier : (words : List (List ℕ)) (i j : ℕ) → IsMisfit words i → IsMisfit words j → i < j → ⊥

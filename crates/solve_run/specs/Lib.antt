@@ -1,5 +1,6 @@
 pub mod Axes
 pub mod PlainGame
+pub mod Reasons
 pub mod ReportText
 pub mod Run
 pub mod Solved

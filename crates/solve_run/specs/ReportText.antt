@@ -6,8 +6,15 @@ use Rattle.std.specs.Int.RustNames.{unsigned_abs}
 use Rattle.pay_frac.specs.Ratio.{Ratio, IsLowest, Equals}
 use Rattle.level_table.specs.declared.level.Level.{Level}
 use Rattle.level_table.specs.declared.level.Level.TheVariants.{Empty, At}
+use Rattle.level_table.specs.declared.reason.Item.{Item}
+use Rattle.level_table.specs.declared.reason.Item.TheVariants as items
+use Rattle.level_table.specs.declared.reason.Reason.{Reason}
+use Rattle.level_table.specs.declared.reason.Reason.TheVariants as reasons
+use Rattle.level_table.specs.declared.reason.Note.{Note}
 use Rattle.level_table.specs.Levels.{level_at}
+use Rattle.level_table.specs.Notes.{no_note}
 use Rattle.game_model.specs.SelfGeneration.{part}
+use Rattle.solve_run.specs.Reasons.{reason_at}
 use Rattle.solve_run.specs.Words.{word_at}
 use Rattle.solve_run.specs.declared.report.Support.{Support}
 use Rattle.solve_run.specs.declared.report.Verdict.{Verdict}
@@ -113,13 +120,42 @@ IsVerdictText r (Supported supports) text = AreTexts (IsPointLine r) supports te
 IsVerdictText r (Unsupported row level reached) text =
     text ≡ line (codes "stop") (row_words r row ++ signed_decimal level ∷ reached_word reached ∷ [])
 
--- The text of the report: the head, one line for each row, the verdict, and the end.
+-- ---- the notes
+-- a row of a certificate, with its level and its multiplier; one with multiplier 0 isn't written
+abbrev pub item_words : Item → List (List ℕ)
+item_words (items.Level k x times) = if int_eq times (pos 0) then [] else (codes "level" ∷ decimal k ∷ signed_decimal x ∷ signed_decimal times ∷ [])
+item_words (items.Gain i b x times) = if int_eq times (pos 0) then [] else (codes "gain" ∷ decimal i ∷ decimal b ∷ signed_decimal x ∷ signed_decimal times ∷ [])
+
+abbrev pub items_words : List Item → List (List ℕ)
+items_words [] = []
+items_words (item ∷ rest) = item_words item ++ items_words rest
+
+abbrev pub reason_words : Reason → List (List ℕ)
+reason_words (reasons.Successor t) = codes "successor" ∷ decimal t ∷ []
+reason_words (reasons.Deviation i b t) = codes "deviation" ∷ decimal i ∷ decimal b ∷ decimal t ∷ []
+reason_words (reasons.Farkas list) = codes "farkas" ∷ items_words list
+
+abbrev pub note_at : List Note → ℕ → Note
+note_at notes l = slice_index_or notes l no_note
+
+-- why nothing is admissible after profile a of state s
+abbrev pub why_line : ℕ → List Reason → ℕ → List ℕ
+why_line s list a = line (codes "why") (decimal s ∷ decimal a ∷ reason_words (reason_at list a))
+
+-- the state, and one line for each of its profiles
+abbrev pub note_text : List Note → ℕ → List ℕ
+note_text notes l = line (codes "empty") (decimal (note_at notes l).state ∷ []) ++ texts_below (why_line (note_at notes l).state (note_at notes l).reasons) (length (note_at notes l).reasons)
+
+abbrev pub notes_text : List Note → List ℕ
+notes_text notes = texts_below (note_text notes) (length notes)
+
+-- The text of the report: the head, one line for each row, the verdict, the notes, and the end.
 pub record IsReportText (r : Report) (text : List ℕ) : Type 0 where
   pub head : List ℕ
   pub verdict : List ℕ
   pub is_head : IsHead r head
   pub is_verdict : IsVerdictText r r.verdict verdict
-  pub parts : text ≡ head ++ texts_below (row_line r) (rows_of r) ++ verdict ++ line (codes "end") []
+  pub parts : text ≡ head ++ texts_below (row_line r) (rows_of r) ++ verdict ++ notes_text r.notes ++ line (codes "end") []
 
 -- ---- what can be printed
 pub record IsFraction (num : List ℤ) (den : ℤ) : Type 0 where

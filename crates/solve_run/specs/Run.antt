@@ -34,6 +34,18 @@ pub record Load : Type 0 where
   pub loads_before : Option ℕ
   pub loads_after : Option ℕ
 
+-- a load of the file of a name, by what the shelf tells and counts
+abbrev pub load_of : {S : Type 0} → (S → List ℕ → Option (List ℕ)) → (S → ℕ) → (S → ℕ) → (S → Option ℕ) → List ℕ → S → S → Load
+load_of bytes faults overlong loads name old new = record {
+  file = bytes old name;
+  faults_before = faults old;
+  faults_after = faults new;
+  overlong_before = overlong old;
+  overlong_after = overlong new;
+  loads_before = loads old;
+  loads_after = loads new;
+}
+
 -- Some bytes that are not too long are the file of the game: those that stand under the name, where the shelf tells them.
 pub record IsFileOf (file : Option (List ℕ)) (n : Nfg) : Type 0 where
   pub bytes : List ℕ
@@ -58,7 +70,7 @@ IsCause words load (Usage index) = IsMisfit words index
 IsCause words load (ReadFault file) = ((set : Settings) × IsSolve words set) × IsFileFault load (ReadFault file)
 IsCause words load (TooLong file) = ((set : Settings) × IsSolve words set) × IsFileFault load (TooLong file)
 IsCause words load (BadInput file at) = ((set : Settings) × IsSolve words set) × IsFileFault load (BadInput file at)
-IsCause words load NoMemory = Unit {0}
+IsCause words load NoMemory = (set : Settings) × IsSolve words set
 IsCause words load (WriteFault written) = ⊥
 IsCause words load Settled = ⊥
 IsCause words load (Spent sweeps row) = ⊥
@@ -102,6 +114,15 @@ pub record Taking : Type 0 where
   pub faults_before : ℕ
   pub faults_after : ℕ
 
+-- what a sink takes, by what it tells and counts
+abbrev pub taking_of : {K : Type 0} → (K → Option (List ℕ)) → (K → ℕ) → K → K → Taking
+taking_of taken faults old new = record {
+  before = taken old;
+  after = taken new;
+  faults_before = faults old;
+  faults_after = faults new;
+}
+
 -- the sink took the first n bytes of the report's text
 pub record TookPart (report : Report) (sink : Taking) (n : ℕ) : Type 0 where
   pub text : List ℕ
@@ -136,7 +157,36 @@ Causes words load sink shown (Usage index) = IsCause words load (Usage index) ×
 Causes words load sink shown (ReadFault file) = IsCause words load (ReadFault file) × IsRefusal sink shown
 Causes words load sink shown (TooLong file) = IsCause words load (TooLong file) × IsRefusal sink shown
 Causes words load sink shown (BadInput file at) = IsCause words load (BadInput file at) × IsRefusal sink shown
-Causes words load sink shown NoMemory = IsRefusal sink shown
+Causes words load sink shown NoMemory = ((set : Settings) × IsSolve words set) × IsRefusal sink shown
 Causes words load sink shown (WriteFault written) = (report : Report) × IsAnswer words load.file report × IsWritten report sink shown (WriteFault written)
 Causes words load sink shown Settled = (report : Report) × IsAnswer words load.file report × IsWritten report sink shown Settled
 Causes words load sink shown (Spent sweeps row) = (report : Report) × IsAnswer words load.file report × IsWritten report sink shown (Spent sweeps row)
+
+-- The words ask for a run, and the file is told, short, and a plain game's.
+pub record IsSolvable (words : List (List ℕ)) (file : Option (List ℕ)) : Type 0 where
+  pub set : Settings
+  pub is_solve : IsSolve words set
+  pub bytes : List ℕ
+  pub told : file ≡ Some bytes
+  pub short : length bytes ≤ longest_file
+  pub game : Nfg
+  pub is_plain : IsPlainFile bytes game
+
+-- a run came to its end, or memory ran out
+abbrev pub IsThrough : Status → Type 0
+IsThrough Settled = Unit {0}
+IsThrough (Spent sweeps row) = Unit {0}
+IsThrough NoMemory = Unit {0}
+IsThrough (Usage index) = ⊥
+IsThrough (BadInput file at) = ⊥
+IsThrough (TooLong file) = ⊥
+IsThrough (ReadFault file) = ⊥
+IsThrough (WriteFault written) = ⊥
+
+-- Where the words and the file are right and no count of faults rises, nothing but memory stands in the way of a report.
+abbrev pub IsComplete : List (List ℕ) → Load → Taking → Status → Type 0
+IsComplete words load sink status =
+    IsSolvable words load.file
+    → (Rose load.faults_before load.faults_after → ⊥)
+    → (Rose sink.faults_before sink.faults_after → ⊥)
+    → IsThrough status

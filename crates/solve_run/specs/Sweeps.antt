@@ -8,10 +8,11 @@ use Rattle.game_model.specs.Game.{counts, profile_count}
 use Rattle.level_table.specs.declared.level.Level.{Level}
 use Rattle.level_table.specs.declared.level.Level.TheVariants.{Empty, At}
 use Rattle.level_table.specs.Problem.{Problem, direction_count}
-use Rattle.level_table.specs.Levels.{Levels, Table, IsRow, IsBelow, AtMost, levels_in, level_at, opening_table}
+use Rattle.level_table.specs.Levels.{Levels, Table, IsNumber, IsRow, IsBelow, AtMost, levels_in, level_at, opening_table}
 use Rattle.level_table.specs.Operator.{Admissible, Fractions, IsRowLevel, HasValueAbove, value, value_unit}
 use Rattle.level_table.specs.Supported.{IsEven, IsSupported}
-use Rattle.bound_laws.specs.Laws.{KeepsSupported}
+use Rattle.bound_laws.specs.Falls.{PassesRowLevels}
+use Rattle.bound_laws.specs.Laws.{HasRange, KeepsSupported}
 use Rattle.solve_run.specs.Axes.{HasSmallParts, IsSmallTable, point_of}
 use Rattle.solve_run.specs.declared.report.Support.{Support}
 use Rattle.solve_run.specs.declared.settle.RowVerdict.{RowVerdict}
@@ -19,11 +20,12 @@ use Rattle.solve_run.specs.declared.settle.RowVerdict.TheVariants as verdicts
 use Rattle.solve_run.specs.declared.report.Verdict.{Verdict}
 use Rattle.solve_run.specs.declared.report.Verdict.TheVariants.{Supported, Unsupported}
 
--- The table of a run: each level is at most the opening and at least that of every supported table, so it bounds.
+-- The table of a run: each level is Empty or between the negative of the opposite opening level and its own, and at least that of every supported table, so it bounds.
 pub record IsRunTable (p : Problem) (t : Table) : Type 0 where
   pub table : IsSmallTable p t
   pub even : IsEven p (levels_in t)
   pub below : IsBelow p (levels_in t) (opening_table p)
+  pub range : HasRange p (levels_in t)
   pub kept : KeepsSupported p (opening_table p) (levels_in t)
 
 -- The level to which a row is lowered: the lesser of its level and its row level. An Empty row, and one where nothing is admissible, is left.
@@ -36,6 +38,10 @@ IsLowered p t s k (At z) = (x : ℤ) × (t s k ≡ At x)
 abbrev pub IsPassed : Problem → Levels → Levels → ℕ → ℕ → Type 0
 IsPassed p old new s k = (l : Level) → IsRowLevel p old s k l → AtMost (new s k) l ⊎ IsRowLevel p new s k Empty
 
+-- no number has become Empty
+abbrev pub StaysNumber : Problem → Levels → Levels → Type 0
+StaysNumber p t u = (s k : ℕ) → IsRow p s k → IsNumber (t s k) → IsNumber (u s k)
+
 -- what one step of a sweep leaves
 pub record IsStep (p : Problem) (old new : Table) : Type 0 where
   pub run : IsRunTable p new
@@ -44,7 +50,7 @@ pub record IsStep (p : Problem) (old new : Table) : Type 0 where
 -- what a sweep leaves
 pub record IsSwept (p : Problem) (old new : Table) : Type 0 where
   pub step : IsStep p old new
-  pub passed : (s k : ℕ) (l : Level) → IsRow p s k → IsRowLevel p (levels_in old) s k l → AtMost (levels_in new s k) l
+  pub passed : PassesRowLevels p (levels_in old) (levels_in new)
 
 -- The support is a profile and a point within 2^50 of zero that is admissible under the table and has a value above the row's level less the slack.
 pub record IsSupportOf (p : Problem) (t : Table) (slack : ℕ) (support : Support) (s k : ℕ) (x : ℤ) : Type 0 where

@@ -1,5 +1,5 @@
 -- The words of the command line.
-use Rattle.std.specs.Prelude.{◌≡◌, ◌⊎◌, ℕ, ◌<◌, ◌≤◌, ◌++◌, List, [], ◌∷◌, length, map, slice_index_or, codes, true, pos, Some, String, string_bytes}
+use Rattle.std.specs.Prelude.{◌≡◌, ◌⊎◌, ℕ, ◌+◌, ◌<◌, ◌≤◌, ◌++◌, List, [], ◌∷◌, length, map, slice_index_or, codes, true, pos, Some, String, string_bytes}
 use Rattle.std.specs.declared.alloc.Global.{Global}
 use Rattle.pay_frac.specs.Ratio.{Equals}
 use Rattle.nfg_text.specs.PlainFile.{all_digits, digits_value}
@@ -38,7 +38,14 @@ pub record IsGridWord (w : List ℕ) (n : ℕ) : Type 0 where
   pub digits : IsDigits 18 number n
   pub small : n ≤ 4
 
--- Word i fits: `solve`, a file's name, the discount, `directions=4`, the grid, `workers=1`, `inner=0`, and no more.
+-- `budget=N` with N from 0 to 10^15
+pub record IsBudgetWord (w : List ℕ) (n : ℕ) : Type 0 where
+  pub number : List ℕ
+  pub shape : w ≡ codes "budget=" ++ number
+  pub digits : IsDigits 18 number n
+  pub small : n ≤ 1000000000000000
+
+-- Word i fits: `solve`, a file's name, the discount, `directions=4`, the grid, `workers=1`, `inner=0`, the budget, and no more.
 abbrev pub FitsAt : ℕ → List ℕ → Type 0
 FitsAt i w =
     ((i ≡ 0) × (w ≡ codes "solve"))
@@ -48,6 +55,7 @@ FitsAt i w =
     ⊎ ((i ≡ 4) × (n : ℕ) × IsGridWord w n)
     ⊎ ((i ≡ 5) × (w ≡ codes "workers=1"))
     ⊎ ((i ≡ 6) × (w ≡ codes "inner=0"))
+    ⊎ ((i ≡ 7) × (n : ℕ) × IsBudgetWord w n)
 
 -- the bytes of each word
 abbrev pub words_in : List (String Global) → List (List ℕ)
@@ -56,7 +64,7 @@ words_in words = map string_bytes words
 abbrev pub word_at : List (List ℕ) → ℕ → List ℕ
 word_at words i = slice_index_or words i []
 
--- how many words there are
+-- how many words there are at least: the budget may be left out
 abbrev pub wanted_words : ℕ
 wanted_words = 7
 
@@ -73,9 +81,14 @@ pub record IsMisfit (words : List (List ℕ)) (i : ℕ) : Type 0 where
   pub before : FitsBelow words i
   pub here : ((i ≡ length words) × (i < wanted_words)) ⊎ ((i < length words) × (FitsAt i (word_at words i) → ⊥))
 
+-- the budget of the last word, or a million where it is left out
+abbrev pub IsBudgetOf : List (List ℕ) → ℕ → Type 0
+IsBudgetOf words n =
+    ((length words ≡ wanted_words) × (n ≡ 1000000))
+    ⊎ ((length words ≡ wanted_words + 1) × IsBudgetWord (word_at words wanted_words) n)
+
 -- The words are the command that solves a file with these settings.
 pub record IsSolve (words : List (List ℕ)) (set : Settings) : Type 0 where
-  pub count : length words ≡ wanted_words
   pub command : word_at words 0 ≡ codes "solve"
   pub numerator : ℕ
   pub denominator : ℕ
@@ -88,5 +101,5 @@ pub record IsSolve (words : List (List ℕ)) (set : Settings) : Type 0 where
   pub workers : set.workers ≡ 1
   pub inner_word : word_at words 6 ≡ codes "inner=0"
   pub inner : set.inner ≡ Some 0
-  pub budget : set.budget ≡ 1000000
+  pub budget : IsBudgetOf words set.budget
   pub slack : set.slack ≡ 1

@@ -32,7 +32,7 @@ fn number(levels: &LevelTable, state: u32, dir: u32) -> Option<i128>
 }
 
 /// Whether each level of a state is a number.
-fn is_known(levels: &LevelTable, state: u32) -> bool
+pub(crate) fn is_known(levels: &LevelTable, state: u32) -> bool
     requires whole { IsWhole levels.now }
     requires state { state < levels.now.states }
     ensures { IsTrue result ↔ ((k : ℕ) → k < levels.now.directions → IsNumber (levels_in levels.now state k)) }
@@ -55,7 +55,7 @@ fn fineness(grid: u32) -> i128
 }
 
 /// What a gain of player `i` in payoff counts in units of `1/E` of what follows.
-fn gain_scale(game: &Game, grid: u32, i: u32) -> i128
+pub(crate) fn gain_scale(game: &Game, grid: u32, i: u32) -> i128
     requires game { IsGame game.now }
     requires grid { grid ≤ 30 }
     requires player { i < game.now.players }
@@ -80,7 +80,7 @@ fn stage_scale(game: &Game, grid: u32, i: u32) -> i128
 
 /// The least part that deters player `i` from playing `b`, where a gain counts `scale`, and none where
 /// a level of the state that it reaches is Empty.
-fn needed(
+pub(crate) fn needed(
     game: &Game,
     levels: &LevelTable,
     scale: i128,

@@ -1,5 +1,5 @@
 use game_model::List;
-use level_table::LevelTable;
+use level_table::{LevelTable, Note};
 use pay_frac::Frac;
 
 /// A vector of fractions: the numerators, of which games of two players use two, over one positive
@@ -46,4 +46,6 @@ pub struct Report {
     pub sweeps: u64,
     pub levels: LevelTable,
     pub verdict: Verdict,
+    /// Why states are empty, in the order in which they were found to be.
+    pub notes: List<Note>,
 }

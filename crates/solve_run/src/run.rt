@@ -1,11 +1,11 @@
 //! The top call.
 
-ghost use Rattle.std.specs.Prelude.{◌≡◌, ◌<◌, ◌^◌, ◌≤ℤ◌, length, pos, IfOk, IfErr};
+ghost use Rattle.std.specs.Prelude.{◌≡◌, ℕ, ◌<◌, ◌^◌, ◌≤ℤ◌, length, pos, IfOk, IfErr};
 ghost use Rattle.pay_frac.specs.Ratio.{Equals};
 ghost use Rattle.solve_run.specs.PlainGame.{IsSmallDiscount};
 ghost use Rattle.solve_run.specs.ReportText.{IsPrintable};
-ghost use Rattle.solve_run.specs.Run.{Causes, IsAnswer, IsCause, IsFileFault, IsFileOf, IsSmallNumber, IsStatusOf, IsWritten, file_name};
-ghost use Rattle.solve_run.specs.Words.{words_in};
+ghost use Rattle.solve_run.specs.Run.{Causes, IsAnswer, IsCause, IsFileFault, IsComplete, IsFileOf, IsSmallNumber, IsStatusOf, IsWritten, file_name, load_of, taking_of};
+ghost use Rattle.solve_run.specs.Words.{IsMisfit, words_in};
 
 use crate::outcome::{FileId, Outcome, Status};
 use crate::report::{Report, Verdict};
@@ -36,23 +36,16 @@ pub fn payoff_run<R: Threads + Sync, S: Shelf, K: Sink, G: Gate + Sync>(
     requires may_ask { 1 < length words.now → S.may_ask shelf.old (file_name (words_in words.now)) }
     ensures causes { Causes
         (words_in words.now)
-        (record {
-          file = S.bytes shelf.old (file_name (words_in words.now));
-          faults_before = S.faults shelf.old;
-          faults_after = S.faults shelf.new;
-          overlong_before = S.overlong shelf.old;
-          overlong_after = S.overlong shelf.new;
-          loads_before = S.loads shelf.old;
-          loads_after = S.loads shelf.new;
-        })
-        (record {
-          before = K.taken sink.old;
-          after = K.taken sink.new;
-          faults_before = K.faults sink.old;
-          faults_after = K.faults sink.new;
-        })
+        (load_of S.bytes S.faults S.overlong S.loads (file_name (words_in words.now)) shelf.old shelf.new)
+        (taking_of K.taken K.faults sink.old sink.new)
         result.report
         result.status }
+    ensures complete { IsComplete
+        (words_in words.now)
+        (load_of S.bytes S.faults S.overlong S.loads (file_name (words_in words.now)) shelf.old shelf.new)
+        (taking_of K.taken K.faults sink.old sink.new)
+        result.status }
+    ensures misfit { (index : ℕ) → IsMisfit (words_in words.now) index → result.status ≡ Status.Usage index }
 {
     match solve(alloc, words, shelf) {
         Err(status) => Outcome {
@@ -66,12 +59,7 @@ pub fn payoff_run<R: Threads + Sync, S: Shelf, K: Sink, G: Gate + Sync>(
 /// Writes the text of a report.
 fn finish<K: Sink>(alloc: Global, sink: &mut K, report: Report) -> Outcome
     requires printable { IsPrintable report }
-    ensures wrote { IsWritten report (record {
-      before = K.taken sink.old;
-      after = K.taken sink.new;
-      faults_before = K.faults sink.old;
-      faults_after = K.faults sink.new;
-    }) result.report result.status }
+    ensures wrote { IsWritten report (taking_of K.taken K.faults sink.old sink.new) result.report result.status }
 {
     match text_of(alloc, &report) {
         Err(_) => Outcome {
@@ -112,15 +100,7 @@ fn solve<S: Shelf>(alloc: Global, words: &[String], shelf: &mut S) -> Result<Rep
     ensures printable { IfOk result IsPrintable }
     ensures why { IfErr result (IsCause
         (words_in words.now)
-        (record {
-          file = S.bytes shelf.old (file_name (words_in words.now));
-          faults_before = S.faults shelf.old;
-          faults_after = S.faults shelf.new;
-          overlong_before = S.overlong shelf.old;
-          overlong_after = S.overlong shelf.new;
-          loads_before = S.loads shelf.old;
-          loads_after = S.loads shelf.new;
-        })) }
+        (load_of S.bytes S.faults S.overlong S.loads (file_name (words_in words.now)) shelf.old shelf.new)) }
 {
     let set = match settings_of(words) {
         Ok(set) => set,
@@ -139,15 +119,7 @@ fn read_file<S: Shelf>(alloc: Global, name: &str, shelf: &mut S) -> Result<Nfg, 
     requires { S.may_ask shelf.old name.now }
     ensures read { IfOk result (λ n. IsFileOf (S.bytes shelf.old name.now) n) }
     ensures why { IfErr result (IsFileFault
-        (record {
-          file = S.bytes shelf.old name.now;
-          faults_before = S.faults shelf.old;
-          faults_after = S.faults shelf.new;
-          overlong_before = S.overlong shelf.old;
-          overlong_after = S.overlong shelf.new;
-          loads_before = S.loads shelf.old;
-          loads_after = S.loads shelf.new;
-        })) }
+        (load_of S.bytes S.faults S.overlong S.loads name.now shelf.old shelf.new)) }
 {
     let file = FileId::First;
     match shelf.load(alloc, name, LONGEST_FILE) {

@@ -1,6 +1,6 @@
 //! From a file's game and the settings to the report.
 
-ghost use Rattle.std.specs.Prelude.{◌≡◌, ℕ, ◌*◌, ◌/◌, ◌^◌, ◌<◌, ◌≤◌, length, slice_index_or, All, IfOk};
+ghost use Rattle.std.specs.Prelude.{◌≡◌, ℕ, ◌*◌, ◌/◌, ◌^◌, ◌<◌, ◌≤◌, length, slice_index, slice_index_or, All, IfOk};
 ghost use Rattle.direction_set.specs.DirectionTable.{IsDirectionTable};
 ghost use Rattle.level_table.specs.Levels.{opening_table, levels_in, IsRow};
 ghost use Rattle.level_table.specs.Tables.{problem_of};
@@ -8,7 +8,7 @@ ghost use Rattle.solve_run.specs.Axes.{IsAxisProblem};
 ghost use Rattle.solve_run.specs.PlainGame.{IsPlain, IsSmallDiscount, plain_game, axes_of_two};
 ghost use Rattle.solve_run.specs.Sweeps.{IsRunTable};
 ghost use Rattle.solve_run.specs.Solved.{IsEnd, IsReportOf};
-ghost use Rattle.solve_run.specs.ReportText.{IsPrintable};
+ghost use Rattle.solve_run.specs.ReportText.{IsPrintable, discount_at};
 
 use crate::game::game_of;
 use crate::report::{Report, Verdict};
@@ -17,7 +17,7 @@ use crate::sweep::sweep;
 use crate::words::Settings;
 use direction_set::Directions;
 use game_model::{Game, List};
-use level_table::{LevelTable, OpeningFault, opening, unit};
+use level_table::{LevelTable, Note, OpeningFault, opening, unit};
 use nfg_text::Nfg;
 use std::alloc::{AllocError, Global};
 
@@ -32,6 +32,7 @@ pub(crate) fn report_of(
     requires file { IsPlain file.now }
     requires discount { IsSmallDiscount p q }
     requires grid { set.now.grid ≤ 4 }
+    requires slack { 1 ≤ set.now.slack }
     ensures solved { IfOk result (IsReportOf (problem_of (plain_game file.now p q) axes_of_two set.now.grid) set.now.slack set.now.budget) }
     ensures printable { IfOk result IsPrintable }
 {
@@ -50,6 +51,7 @@ pub(crate) fn report_of(
         sweeps: end.sweeps,
         levels: end.levels,
         verdict: end.verdict,
+        notes: end.notes,
     })
 }
 
@@ -67,6 +69,7 @@ fn axes() -> Directions
 /// Each player's discount factor.
 fn discounts_of(alloc: Global, game: &Game) -> Result<List<(u32, u32)>, AllocError>
     ensures count { IfOk result (λ ds. length ds ≡ game.now.players) }
+    ensures each { IfOk result (λ ds. (i : ℕ) → i < game.now.players → discount_at ds i ≡ (slice_index game.now.discounts i, game.now.q)) }
     ensures positive { IfOk result (All (λ d. 0 < d.1)) }
 {
     let mut discounts = List::new(alloc);
@@ -102,6 +105,7 @@ fn opening_of(
 #[derive(Drop)]
 struct End {
     levels: LevelTable,
+    notes: List<Note>,
     sweeps: u64,
     verdict: Verdict,
 }
@@ -116,25 +120,29 @@ fn run(
 ) -> Result<End, AllocError>
     requires problem { IsAxisProblem game.now dirs.now set.now.grid }
     requires run { IsRunTable (problem_of game.now dirs.now set.now.grid) start }
+    requires slack { 1 ≤ set.now.slack }
     requires opening { (s k : ℕ) → IsRow (problem_of game.now dirs.now set.now.grid) s k → levels_in start s k ≡ opening_table (problem_of game.now dirs.now set.now.grid) s k }
-    ensures { IfOk result (λ e. IsEnd (problem_of game.now dirs.now set.now.grid) set.now.slack (set.now.budget / length e.levels.levels) e.levels e.sweeps e.verdict) }
+    ensures { IfOk result (λ e. IsEnd (problem_of game.now dirs.now set.now.grid) set.now.slack (set.now.budget / length e.levels.levels) e.levels e.notes e.sweeps e.verdict) }
 {
     let mut levels = start;
+    let mut notes = List::new(alloc);
     let most = set.budget / u64::from(levels.rows());
     for sweeps in 0..most {
         let verdict = settled(alloc, game, dirs, set.grid, &levels, set.slack)?;
         if let Verdict::Supported(_) = verdict {
             return Ok(End {
                 levels,
+                notes,
                 sweeps,
                 verdict,
             });
         }
-        sweep(game, dirs, set.grid, &mut levels);
+        sweep(alloc, game, dirs, set.grid, &mut levels, &mut notes)?;
     }
     let verdict = settled(alloc, game, dirs, set.grid, &levels, set.slack)?;
     Ok(End {
         levels,
+        notes,
         sweeps: most,
         verdict,
     })

@@ -11,6 +11,8 @@ const PD: &[u8] = b"NFG 1 R \"PD\" { \"1\" \"2\" } { 2 2 } 2 2 3 0 0 3 1 1";
 const SELTEN: &[u8] =
     b"NFG 1 R \"Selten (IJGT, 75), Figure 2, normal form\" { \"Player 1\" \"Player 2\" } { 3 2 } 1 1 0 2 0 2 1 1 0 3 2 0";
 
+const MP: &[u8] = b"NFG 1 R \"MP\" { \"1\" \"2\" } { 2 2 } 1 -1 -1 1 -1 1 1 -1";
+
 const AT_HALF: [&str; 7] = [
     "solve",
     "pd.nfg",
@@ -30,6 +32,20 @@ const AT_NINE_TENTHS: [&str; 7] = [
     "workers=1",
     "inner=0",
 ];
+
+/// The words of the first example with one more word.
+fn with_budget(word: &str) -> [&str; 8] {
+    [
+        "solve",
+        "pd.nfg",
+        "discount=1/2",
+        "directions=4",
+        "grid=4",
+        "workers=1",
+        "inner=0",
+        word,
+    ]
+}
 
 /// A call with these words over a shelf with this content of `pd.nfg`, and what its sink took.
 fn run<R: Threads + Sync + Abort>(
@@ -63,6 +79,16 @@ fn games_are_settled(rt: HostRuntime) -> Result<(), Fail> {
             &b"payoff 1\nstatus settled\nplayers 2\nstates 1\ndirections 4\ndiscount 1/2\nunit 16\nslack 1\nsweeps 4\nsolves 16\nrow 0 0 48\nrow 0 1 -15\nrow 0 2 48\nrow 0 3 -15\npoint 0 0 "[..],
         ),
         (
+            PD,
+            &with_budget("budget=16")[..],
+            &b"payoff 1\nstatus settled\nplayers 2\nstates 1\ndirections 4\ndiscount 1/2\nunit 16\nslack 1\nsweeps 4\nsolves 16\nrow 0 0 48\nrow 0 1 -15\nrow 0 2 48\nrow 0 3 -15\npoint 0 0 "[..],
+        ),
+        (
+            MP,
+            &AT_HALF[..],
+            &b"payoff 1\nstatus settled\nplayers 2\nstates 1\ndirections 4\ndiscount 1/2\nunit 16\nslack 1\nsweeps 1\nsolves 4\nrow 0 0 empty\nrow 0 1 empty\nrow 0 2 empty\nrow 0 3 empty\nempty 0\nwhy 0 0 farkas level 2 0 1 gain 1 1 16 1\nwhy 0 1 farkas level 0 16 1 gain 0 0 0 1\nwhy 0 2 farkas level 0 16 1 gain 0 1 0 1\nwhy 0 3 farkas level 2 0 1 gain 1 0 16 1\nend\n"[..],
+        ),
+        (
             SELTEN,
             &AT_NINE_TENTHS[..],
             &b"payoff 1\nstatus settled\nplayers 2\nstates 1\ndirections 4\ndiscount 9/10\nunit 144\nslack 1\nsweeps 31\nsolves 124\nrow 0 0 288\nrow 0 1 -135\nrow 0 2 432\nrow 0 3 -135\npoint 0 0 "[..],
@@ -78,6 +104,48 @@ fn games_are_settled(rt: HostRuntime) -> Result<(), Fail> {
 }
 
 #[test]
+fn budgets_are_spent(rt: HostRuntime) -> Result<(), Fail> {
+    let alloc = rt.alloc();
+    let opening =
+        b"sweeps 0\nsolves 0\nrow 0 0 48\nrow 0 1 0\nrow 0 2 48\nrow 0 3 0\nstop 0 1 0 -8\nend\n";
+    let third =
+        b"sweeps 3\nsolves 12\nrow 0 0 48\nrow 0 1 -14\nrow 0 2 48\nrow 0 3 -14\nstop 0 1 -14 -15\nend\n";
+    for (word, sweeps, end) in [
+        ("budget=0", 0, &opening[..]),
+        ("budget=3", 0, &opening[..]),
+        (
+            "budget=4",
+            1,
+            &b"sweeps 1\nsolves 4\nrow 0 0 48\nrow 0 1 -8\nrow 0 2 48\nrow 0 3 -8\nstop 0 1 -8 -12\nend\n"[..],
+        ),
+        (
+            "budget=8",
+            2,
+            &b"sweeps 2\nsolves 8\nrow 0 0 48\nrow 0 1 -12\nrow 0 2 48\nrow 0 3 -12\nstop 0 1 -12 -14\nend\n"[..],
+        ),
+        ("budget=12", 3, &third[..]),
+        ("budget=15", 3, &third[..]),
+    ] {
+        let mut sink = MemSink::new(alloc, 7, Vec::new(alloc))?;
+        let status = run(
+            &rt,
+            alloc,
+            &with_budget(word),
+            Some(PD.to_vec(alloc)?),
+            &mut sink,
+        )?;
+        assert_eq!(rt; status, Status::Spent { sweeps, row: 1 });
+        let mut text = Vec::new(alloc);
+        text.extend_from_slice(
+            b"payoff 1\nstatus spent\nplayers 2\nstates 1\ndirections 4\ndiscount 1/2\nunit 16\nslack 1\n",
+        )?;
+        text.extend_from_slice(end)?;
+        assert_eq!(rt; sink.taken(), text.as_slice());
+    }
+    Ok(())
+}
+
+#[test]
 fn words_that_do_not_fit_are_named(rt: HostRuntime) -> Result<(), Fail> {
     let alloc = rt.alloc();
     for (words, index) in [
@@ -86,6 +154,7 @@ fn words_that_do_not_fit_are_named(rt: HostRuntime) -> Result<(), Fail> {
         (&["solve", "pd.nfg", "discount=1"][..], 2),
         (&["solve", "pd.nfg", "discount=0"][..], 2),
         (&["solve", "pd.nfg", "workers=0"][..], 2),
+        (&with_budget("slack=1")[..], 7),
     ] {
         let mut sink = MemSink::new(alloc, 7, Vec::new(alloc))?;
         let status = run(&rt, alloc, words, Some(PD.to_vec(alloc)?), &mut sink)?;
@@ -118,9 +187,14 @@ fn files_that_give_no_game_are_refused(rt: HostRuntime) -> Result<(), Fail> {
 #[test]
 fn output_that_fails_is_told(rt: HostRuntime) -> Result<(), Fail> {
     let alloc = rt.alloc();
-    let mut sink = MemSink::new(alloc, 7, vec![in alloc; 1u64]?)?;
-    let status = run(&rt, alloc, &AT_HALF, Some(PD.to_vec(alloc)?), &mut sink)?;
-    assert_eq!(rt; status, Status::WriteFault { written: 7 });
-    assert_eq!(rt; sink.taken(), b"payoff ".as_slice());
+    for (words, most_per_put, written, bytes) in [
+        (&AT_HALF[..], 7, 7, &b"payoff "[..]),
+        (&with_budget("budget=15")[..], 10, 10, &b"payoff 1\ns"[..]),
+    ] {
+        let mut sink = MemSink::new(alloc, most_per_put, vec![in alloc; 1u64]?)?;
+        let status = run(&rt, alloc, words, Some(PD.to_vec(alloc)?), &mut sink)?;
+        assert_eq!(rt; status, Status::WriteFault { written });
+        assert_eq!(rt; sink.taken(), bytes);
+    }
     Ok(())
 }

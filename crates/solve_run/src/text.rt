@@ -1,6 +1,6 @@
 //! The text of a report.
 
-ghost use Rattle.solve_run.specs.ReportText.{AreDiscountWords, AreEqual, AreFractionWords, AreTexts, IsFraction, IsFractionWord, IsHead, IsPointLine, IsPrintable, IsReportText, IsVerdictText, blanked, discount_at, level_word, line, ratio_word, reached_word, row_line, row_words, rows_of, status_word, texts_below};
+ghost use Rattle.solve_run.specs.ReportText.{AreDiscountWords, AreEqual, AreFractionWords, AreTexts, IsFraction, IsFractionWord, IsHead, IsPointLine, IsPrintable, IsReportText, IsVerdictText, blanked, discount_at, item_words, items_words, level_word, line, note_text, notes_text, ratio_word, reached_word, reason_words, row_line, row_words, rows_of, status_word, texts_below, why_line};
 ghost use Rattle.game_model.specs.SelfGeneration.{part};
 ghost use Rattle.std.specs.Int.RustNames.{unsigned_abs};
 ghost use Rattle.std.specs.Fmt.{signed_decimal};
@@ -9,7 +9,7 @@ ghost use Rattle.std.specs.Prelude.{All, decimal, ◌⊎◌, codes, ◌*◌, IfO
 use crate::report::{Point, Report, Support, Verdict};
 use game_model::List;
 use itoa::{Buffer, Integer};
-use level_table::Level;
+use level_table::{Item, Items, Level, Note, Reason};
 use pay_frac::Frac;
 use std::alloc::{AllocError, Global};
 
@@ -18,8 +18,8 @@ use std::alloc::{AllocError, Global};
 /// The lines are `payoff 1`, `status`, `players`, `states`, `directions`, `discount`, `unit`, `slack`,
 /// `sweeps` and `solves`, which is sweeps times rows; then `row S K X` for each row, with the state, the
 /// direction and the level; then `point S K A Y0 Y1 ..` for each support, with the profile and the parts of
-/// the point, or `stop S K X V` for the row that has none, with its level and the reached value; then `end`.
-/// Levels, parts and values are in units of `1/unit`. A fraction is `n` or `n/d` in lowest terms.
+/// the point, or `stop S K X V` for the row that has none, with its level and the reached value; then, for each note,
+/// `empty S` and one `why S A ..` for each profile; then `end`. Levels, parts and values are in units of `1/unit`. A fraction is `n` or `n/d` in lowest terms.
 pub fn text_of(alloc: Global, report: &Report) -> Result<Vec<u8>, AllocError>
     requires { IsPrintable report.now }
     ensures { IfOk result (λ text. IsReportText report.now text.items) }
@@ -28,6 +28,7 @@ pub fn text_of(alloc: Global, report: &Report) -> Result<Vec<u8>, AllocError>
     head(&mut out, report)?;
     row_lines(&mut out, report)?;
     verdict_lines(&mut out, report)?;
+    note_lines(&mut out, &report.notes)?;
     out.extend_from_slice(b"end\n")?;
     Ok(out)
 }
@@ -336,6 +337,112 @@ fn reached_value(out: &mut Vec<u8>, reached: Option<Frac>) -> Result<(), AllocEr
     }
 }
 
+/// The lines of the notes, in their order.
+fn note_lines(out: &mut Vec<u8>, notes: &List<Note>) -> Result<(), AllocError>
+    ensures { OnOk result (out.new.items ≡ out.old.items ++ notes_text notes.now) }
+{
+    for l in 0..notes.len() {
+        note_text_of(out, notes, l)?;
+    }
+    Ok(())
+}
+
+/// The lines of a note: its state, and a reason for each profile.
+fn note_text_of(out: &mut Vec<u8>, notes: &List<Note>, l: u32) -> Result<(), AllocError>
+    requires { l < length notes.now }
+    ensures { OnOk result (out.new.items ≡ out.old.items ++ note_text notes.now l) }
+{
+    let note = notes.get(l);
+    number_line(out, b"empty", note.state)?;
+    why_lines(out, note.state, &note.reasons)
+}
+
+/// One line for each profile of an empty state.
+fn why_lines(out: &mut Vec<u8>, s: u32, reasons: &List<Reason>) -> Result<(), AllocError>
+    ensures { OnOk result (out.new.items ≡ out.old.items ++ texts_below (why_line s reasons.now) (length reasons.now)) }
+{
+    for a in 0..reasons.len() {
+        why_line_of(out, s, reasons, a)?;
+    }
+    Ok(())
+}
+
+/// Why nothing is admissible after profile `a`.
+fn why_line_of(out: &mut Vec<u8>, s: u32, reasons: &List<Reason>, a: u32) -> Result<(), AllocError>
+    requires { a < length reasons.now }
+    ensures { OnOk result (out.new.items ≡ out.old.items ++ why_line s reasons.now a) }
+{
+    out.extend_from_slice(b"why")?;
+    number(out, s)?;
+    number(out, a)?;
+    reason(out, reasons.get(a))?;
+    out.push(b'\n')?;
+    Ok(())
+}
+
+/// The words of a reason.
+fn reason(out: &mut Vec<u8>, reason: &Reason) -> Result<(), AllocError>
+    ensures { OnOk result (out.new.items ≡ out.old.items ++ blanked (reason_words reason.now)) }
+{
+    match reason {
+        Reason::Successor { state } => {
+            word(out, b"successor")?;
+            number(out, *state)
+        }
+        Reason::Deviation {
+            player,
+            strategy,
+            state,
+        } => {
+            word(out, b"deviation")?;
+            number(out, *player)?;
+            number(out, *strategy)?;
+            number(out, *state)
+        }
+        Reason::Farkas { items } => {
+            word(out, b"farkas")?;
+            items_of(out, items)
+        }
+    }
+}
+
+/// The rows of a certificate.
+fn items_of(out: &mut Vec<u8>, items: &Items) -> Result<(), AllocError>
+    ensures { OnOk result (out.new.items ≡ out.old.items ++ blanked (items_words items.now)) }
+{
+    for i in 0..items.len() {
+        item(out, items.get(i))?;
+    }
+    Ok(())
+}
+
+/// A row of a certificate. One with multiplier 0 isn't written.
+fn item(out: &mut Vec<u8>, item: &Item) -> Result<(), AllocError>
+    ensures { OnOk result (out.new.items ≡ out.old.items ++ blanked (item_words item.now)) }
+{
+    match *item {
+        Item::Level { times: 0, .. } | Item::Gain { times: 0, .. } => Ok(()),
+        Item::Level { dir, level, times } => {
+            word(out, b"level")?;
+            number(out, dir)?;
+            number(out, level)?;
+            number(out, times)
+        }
+        Item::Gain {
+            player,
+            strategy,
+            level,
+            times,
+        } => {
+            word(out, b"gain")?;
+            number(out, player)?;
+            number(out, strategy)?;
+            number(out, level)?;
+            number(out, times)
+        }
+    }
+}
+
 /// A fraction over a positive denominator has one word, so the text of a report is a function of it.
 pub fn fraction_word_law()
     ensures { (num den : ℤ) (v w : List ℕ) → pos 0 <ℤ den → IsFractionWord num den v → IsFractionWord num den w → v ≡ w }
@@ -351,7 +458,7 @@ mod tests {
         "payoff 1\nstatus spent\nplayers 2\nstates 1\ndirections 4\ndiscount 1/2\nunit 16\nslack 1\nsweeps 3\nsolves 12\nrow 0 0 48\nrow 0 1 -14\nrow 0 2 48\nrow 0 3 -14\nstop 0 1 -14 -15\nend\n";
 
     const SETTLED: &str =
-        "payoff 1\nstatus settled\nplayers 2\nstates 1\ndirections 4\ndiscount 1/2\nunit 1\nslack 1\nsweeps 0\nsolves 0\nrow 0 0 1\nrow 0 1 -1\nrow 0 2 2\nrow 0 3 -2\npoint 0 0 0 1 2\npoint 0 1 0 1 2\npoint 0 2 0 1 2\npoint 0 3 0 1 2\nend\n";
+        "payoff 1\nstatus settled\nplayers 2\nstates 1\ndirections 4\ndiscount 1/2\nunit 1\nslack 1\nsweeps 0\nsolves 0\nrow 0 0 1\nrow 0 1 -1\nrow 0 2 2\nrow 0 3 -2\npoint 0 0 0 1 2\npoint 0 1 0 1 2\npoint 0 2 0 1 2\npoint 0 3 0 1 2\nempty 3\nwhy 3 0 successor 1\nwhy 3 1 deviation 1 0 2\nwhy 3 2 farkas level 0 16 1 gain 0 1 -3 2\nend\n";
 
     fn halves(alloc: Global) -> Result<List<(u32, u32)>, AllocError>
         ensures count { IfOk result (λ ds. length ds ≡ 2) }
@@ -392,6 +499,7 @@ mod tests {
                 level: -14,
                 reached: Some(Frac::of(-15, 1)),
             },
+            notes: List::new(alloc),
         })
     }
 
@@ -420,6 +528,38 @@ mod tests {
         Ok(supports)
     }
 
+    /// A note with a reason of each kind, and a row with multiplier 0.
+    fn notes(alloc: Global) -> Result<List<Note>, AllocError> {
+        let mut items = Items::new();
+        items.push(Item::Level {
+            dir: 0,
+            level: 16,
+            times: 1,
+        });
+        items.push(Item::Level {
+            dir: 2,
+            level: 7,
+            times: 0,
+        });
+        items.push(Item::Gain {
+            player: 0,
+            strategy: 1,
+            level: -3,
+            times: 2,
+        });
+        let mut reasons = List::new(alloc);
+        reasons.push(Reason::Successor { state: 1 })?;
+        reasons.push(Reason::Deviation {
+            player: 1,
+            strategy: 0,
+            state: 2,
+        })?;
+        reasons.push(Reason::Farkas { items })?;
+        let mut notes = List::new(alloc);
+        notes.push(Note { state: 3, reasons })?;
+        Ok(notes)
+    }
+
     fn settled(alloc: Global) -> Result<Report, AllocError>
         ensures { IfOk result IsPrintable }
     {
@@ -433,6 +573,7 @@ mod tests {
             sweeps: 0,
             levels: table(alloc, [1, -1, 2, -2])?,
             verdict: Verdict::Supported(supports(alloc)?),
+            notes: notes(alloc)?,
         })
     }
 

@@ -1,7 +1,7 @@
 //! The words of the command line.
 
 ghost use Rattle.pay_frac.specs.Ratio.{Equals};
-ghost use Rattle.solve_run.specs.Words.{FitsBelow, IsDigits, IsDiscountWord, IsGridWord, IsMisfit, IsOnlyFit, IsRatioText, IsSolve, word_at, words_in};
+ghost use Rattle.solve_run.specs.Words.{FitsBelow, IsBudgetOf, IsBudgetWord, IsDigits, IsDiscountWord, IsGridWord, IsMisfit, IsOnlyFit, IsRatioText, IsSolve, word_at, words_in};
 ghost use Rattle.std.specs.Prelude.{IfErr, IfNone, IfSome, IfOk, OnOk, length, pos, ◌++◌, ◌+◌, ◌<◌, ◌^◌, ◌≡◌, ◌≢◌, ◌≤◌, ℕ, List, EachIndex, slice_index, [], ◌∷◌, codes};
 ghost use Rattle.solve_run.specs.declared.words.Settings.{Settings};
 
@@ -33,11 +33,17 @@ pub struct UsageFault {
     pub index: u32,
 }
 
-/// How many words a command has.
+/// How many words a command has at least.
 const WANTED: u32 = 7;
 
+/// The budget where no word says it.
+const USUAL_BUDGET: u64 = 1_000_000;
+
+/// The largest budget.
+const LARGEST_BUDGET: u64 = 1_000_000_000_000_000;
+
 /// What the words ask for: `solve`, a file's name, `discount=P/R`, `directions=4`, `grid=N`, `workers=1`,
-/// `inner=0`.
+/// `inner=0`, and then `budget=N` or nothing.
 pub fn settings_of(words: &[String]) -> Result<Settings, UsageFault>
     requires { length words.now < 2 ^ 32 }
     ensures settings { IfOk result (IsSolve (words_in words.now)) }
@@ -50,12 +56,12 @@ pub fn settings_of(words: &[String]) -> Result<Settings, UsageFault>
     let grid = grid_of(words)?;
     fixed_word(words, 5, b"workers=1")?;
     fixed_word(words, 6, b"inner=0")?;
-    no_more(words)?;
+    let budget = budget_of(words)?;
     Ok(Settings {
         discount,
         directions: Some(4),
         workers: 1,
-        budget: 1_000_000,
+        budget,
         grid,
         slack: 1,
         inner: Some(0),
@@ -100,6 +106,14 @@ fn word(words: &[String], index: u32) -> Result<&[u8], UsageFault>
     }
 }
 
+/// The bytes of the word at `index`.
+fn bytes_at(words: &[String], index: u32) -> &[u8]
+    requires { index < length words.now }
+    ensures { result.now ≡ word_at (words_in words.now) index }
+{
+    words[index as usize].as_bytes()
+}
+
 /// Word 1 is a file's name, whatever it is.
 fn file_word(words: &[String]) -> Result<(), UsageFault>
     requires { FitsBelow (words_in words.now) 1 }
@@ -130,14 +144,39 @@ fn grid_of(words: &[String]) -> Result<u32, UsageFault>
     grid_word(word(words, 4)?).ok_or(UsageFault { index: 4 })
 }
 
-/// There are no further words.
-fn no_more(words: &[String]) -> Result<(), UsageFault>
+/// The budget, of the last word or the usual one.
+fn budget_of(words: &[String]) -> Result<u64, UsageFault>
     requires { FitsBelow (words_in words.now) 7 }
-    ensures count { OnOk result (length (words_in words.now) ≡ 7) }
+    ensures value { IfOk result (IsBudgetOf (words_in words.now)) }
     ensures misfit { IfErr result (λ f. IsMisfit (words_in words.now) f.index) }
 {
-    if words.len() > WANTED as usize {
-        return Err(UsageFault { index: WANTED });
+    if words.len() == WANTED as usize {
+        return Ok(USUAL_BUDGET);
+    }
+    let budget = last_word(words)?;
+    no_more(words)?;
+    Ok(budget)
+}
+
+/// Word 7 is the budget.
+fn last_word(words: &[String]) -> Result<u64, UsageFault>
+    requires before { FitsBelow (words_in words.now) 7 }
+    requires there { 7 < length words.now }
+    ensures fits { OnOk result (FitsBelow (words_in words.now) 8) }
+    ensures value { IfOk result (IsBudgetWord (word_at (words_in words.now) 7)) }
+    ensures misfit { IfErr result (λ f. IsMisfit (words_in words.now) f.index) }
+{
+    budget_word(bytes_at(words, WANTED)).ok_or(UsageFault { index: WANTED })
+}
+
+/// There are no words after the budget.
+fn no_more(words: &[String]) -> Result<(), UsageFault>
+    requires { FitsBelow (words_in words.now) 8 }
+    ensures count { OnOk result (length (words_in words.now) ≡ 8) }
+    ensures misfit { IfErr result (λ f. IsMisfit (words_in words.now) f.index) }
+{
+    if words.len() > WANTED as usize + 1 {
+        return Err(UsageFault { index: WANTED + 1 });
     }
     Ok(())
 }
@@ -186,6 +225,18 @@ fn grid_word(word: &[u8]) -> Option<u32>
     Some(grid as u32)
 }
 
+/// The budget that `budget=N` spells.
+fn budget_word(word: &[u8]) -> Option<u64>
+    ensures some { IfSome result (IsBudgetWord word.now) }
+    ensures none { IfNone result ((n : ℕ) → IsBudgetWord word.now n → ⊥) }
+{
+    let budget = digits(after(word, b"budget=")?, 18)?;
+    if budget > LARGEST_BUDGET {
+        return None;
+    }
+    Some(budget)
+}
+
 /// What stands after the prefix.
 fn after<'w>(word: &'w [u8], prefix: &[u8]) -> Option<&'w [u8]>
     ensures some { IfSome result (λ rest. word.now ≡ prefix.now ++ rest.now) }
@@ -229,17 +280,34 @@ mod tests {
 
     #[test]
     fn settings_and_misfits(rt: HostRuntime) -> Result<(), Fail> {
-        let words = words_of(
-            rt.alloc(),
-            "solve pd.nfg discount=1/2 directions=4 grid=4 workers=1 inner=0",
-        )?;
-        assert!(rt; words.len() < 9);
-        match settings_of(&words) {
-            Ok(settings) => {
-                assert_eq!(rt; settings.discount, Frac::of(1, 2));
-                assert_eq!(rt; settings.grid, 4);
+        for (line, budget) in [
+            (
+                "solve pd.nfg discount=1/2 directions=4 grid=4 workers=1 inner=0",
+                1_000_000,
+            ),
+            (
+                "solve pd.nfg discount=1/2 directions=4 grid=4 workers=1 inner=0 budget=0",
+                0,
+            ),
+            (
+                "solve pd.nfg discount=1/2 directions=4 grid=4 workers=1 inner=0 budget=000000000000000015",
+                15,
+            ),
+            (
+                "solve pd.nfg discount=1/2 directions=4 grid=4 workers=1 inner=0 budget=1000000000000000",
+                1_000_000_000_000_000,
+            ),
+        ] {
+            let words = words_of(rt.alloc(), line)?;
+            assert!(rt; words.len() < 100);
+            match settings_of(&words) {
+                Ok(settings) => {
+                    assert_eq!(rt; settings.discount, Frac::of(1, 2));
+                    assert_eq!(rt; settings.grid, 4);
+                    assert_eq!(rt; settings.budget, budget);
+                }
+                Err(fault) => assert!(rt; false, "word {} of {line}", fault.index),
             }
-            Err(fault) => assert!(rt; false, "word {} of the first row", fault.index),
         }
         for (line, index) in [
             ("", 0),
@@ -247,13 +315,34 @@ mod tests {
             ("solve pd.nfg discount=1", 2),
             ("solve pd.nfg discount=0", 2),
             ("solve pd.nfg workers=0", 2),
+            ("solve pd.nfg discount=1/2 directions=4 grid=4 workers=1", 6),
             (
                 "solve pd.nfg discount=1/2 directions=4 grid=4 workers=1 inner=0 slack=1",
                 7,
             ),
+            (
+                "solve pd.nfg discount=1/2 directions=4 grid=4 workers=1 inner=0 budget=",
+                7,
+            ),
+            (
+                "solve pd.nfg discount=1/2 directions=4 grid=4 workers=1 inner=0 budget=+1",
+                7,
+            ),
+            (
+                "solve pd.nfg discount=1/2 directions=4 grid=4 workers=1 inner=0 budget=1000000000000001",
+                7,
+            ),
+            (
+                "solve pd.nfg discount=1/2 directions=4 grid=4 workers=1 inner=0 budget=0000000000000000015",
+                7,
+            ),
+            (
+                "solve pd.nfg discount=1/2 directions=4 grid=4 workers=1 inner=0 budget=15 budget=15",
+                8,
+            ),
         ] {
             let words = words_of(rt.alloc(), line)?;
-            assert!(rt; words.len() < 9);
+            assert!(rt; words.len() < 100);
             let found = settings_of(&words).err().map(|fault| fault.index);
             assert_eq!(rt; found, Some(index), "{line}");
         }

@@ -19,11 +19,11 @@ run-requires-clause-problem c = axis_problem c.in_ok-game.game c.axes-dirs.resul
 
 pub returns-clause-solved : goal.returns-clause-solved
 returns-clause-solved c =
-    let report : Report = record { players = c.players.result; states = c.states.result; directions = c.count.result; discounts = c.in_ok-discounts_of.field-0; unit = to_z w128 (of_z w128 c.unit.result); slack = c.args.set.now.slack; sweeps = c.in_ok-end.end.sweeps; levels = c.in_ok-end.end.levels; verdict = c.in_ok-end.end.verdict } in
+    let report : Report = record { players = c.players.result; states = c.states.result; directions = c.count.result; discounts = c.in_ok-discounts_of.field-0; unit = to_z w128 (of_z w128 c.unit.result); slack = c.args.set.now.slack; sweeps = c.in_ok-end.end.sweeps; levels = c.in_ok-end.end.levels; verdict = c.in_ok-end.end.verdict; notes = c.in_ok-end.end.notes } in
     let problem : IsAxisProblem c.in_ok-game.game c.axes-dirs.result c.args.set.now.grid = axis_problem c.in_ok-game.game c.axes-dirs.result c.args.file.now c.args.p c.args.q c.args.set.now.grid c.players-players.ensures.is_game c.in_ok-game.ensures c.requires.discount c.axes-dirs.ensures.axes c.axes-dirs.ensures.table c.axes-dirs.ensures.count c.requires.grid in
     let unit : to_z w128 (of_z w128 c.unit.result) ≡ unit_of c.in_ok-game.game c.args.set.now.grid = to_z-of_z w128 c.unit.result (subst (FitsSigned w128) (sym c.unit.ensures) (unit_fits c.in_ok-game.game c.args.set.now.grid c.players-players.ensures.is_game c.requires.grid)) ∙ c.unit.ensures in
     let here : IsReportOf (problem_of c.in_ok-game.game c.axes-dirs.result c.args.set.now.grid) c.args.set.now.slack c.args.set.now.budget report =
-    report_is c.in_ok-game.game c.axes-dirs.result c.args.set.now.grid c.args.set.now.slack c.args.set.now.budget report problem c.players.ensures.count c.states.ensures c.count.ensures unit refl c.in_ok-end.ensures in
+    report_is c.in_ok-game.game c.axes-dirs.result c.args.set.now.grid c.args.set.now.slack c.args.set.now.budget report problem c.players.ensures.count c.states.ensures c.count.ensures c.in_ok-discounts_of.ensures.count c.in_ok-discounts_of.ensures.each unit refl c.in_ok-end.ensures in
     subst (λ (g : DynamicGame). IsReportOf (problem_of g axes_of_two c.args.set.now.grid) c.args.set.now.slack c.args.set.now.budget report) c.in_ok-game.ensures
     (subst (λ (d : DirectionTable). IsReportOf (problem_of c.in_ok-game.game d c.args.set.now.grid) c.args.set.now.slack c.args.set.now.budget report) c.axes-dirs.ensures.axes here)
 

@@ -9,11 +9,12 @@ pub loop-s-preserved : goal.loop-s-preserved
 loop-s-preserved c =
     let p = problem_of c.args.game.now c.args.dirs.now c.args.grid in
     let inv = c.loop-s.invariant in
-    let step = c.clear_dead.ensures.step in
+    let step = c.in_ok-clear_dead.ensures.step in
     let known : c.loop-s.s < states c.args.game.now = omega arith in
     record {
       run = step.run;
+      noted = c.in_ok-clear_dead.ensures.noted;
       below = below_trans p (levels_in c.clear_dead.new.levels) (levels_in c.loop-s.levels) (levels_in c.args.levels.now) step.below inv.below;
       cleared = cleared_more p (levels_in c.args.levels.now) (levels_in c.loop-s.levels) (levels_in c.clear_dead.new.levels) c.loop-s.s
-          (record { game = c.requires.problem.game; directions = c.requires.problem.table }) known inv.below step.below inv.cleared c.clear_dead.ensures.cleared;
+          (record { game = c.requires.problem.game; directions = c.requires.problem.table }) known inv.below step.below inv.cleared c.in_ok-clear_dead.ensures.cleared;
     }

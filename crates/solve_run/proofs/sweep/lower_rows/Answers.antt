@@ -19,10 +19,11 @@ loop-k-preserved c =
     record {
       run = step.run;
       below = below_trans p new mid entry step.below inv.below;
-      passed = λ s k before dir. passed_below p entry mid new s k (record { game = c.requires.problem.game; directions = c.requires.problem.table }) (record { state = omega arith; direction = dir }) step.below (inv.passed s k before dir);
-      here = below_more (λ (k : ℕ). IsPassed p entry new c.loop-s.s k) c.loop-k.k
-          (λ k before. passed_below p entry mid new c.loop-s.s k (record { game = c.requires.problem.game; directions = c.requires.problem.table }) (record { state = known; direction = omega arith }) step.below (inv.here k before))
-          (c.lower.ensures.passed entry inv.below);
+      numbers = λ s k row number. c.lower.ensures.numbers s k row (inv.numbers s k row number);
+      passed = λ above under s k before dir. passed_below p above mid new s k (record { game = c.requires.problem.game; directions = c.requires.problem.table }) (record { state = omega arith; direction = dir }) step.below (inv.passed above under s k before dir);
+      here = λ above under. below_more (λ (k : ℕ). IsPassed p above new c.loop-s.s k) c.loop-k.k
+          (λ k before. passed_below p above mid new c.loop-s.s k (record { game = c.requires.problem.game; directions = c.requires.problem.table }) (record { state = known; direction = omega arith }) step.below (inv.here above under k before))
+          (c.lower.ensures.passed above (below_trans p mid entry above inv.below under));
     }
 
 pub loop-s-preserved : goal.loop-s-preserved
@@ -32,5 +33,6 @@ loop-s-preserved c =
     record {
       run = inv.run;
       below = inv.below;
-      passed = passed_more p (levels_in c.args.levels.now) (levels_in c.loop-k.levels) c.loop-s.s c.loop-k.k (omega arith) inv.passed inv.here;
+      numbers = inv.numbers;
+      passed = λ above under. passed_more p above (levels_in c.loop-k.levels) c.loop-s.s c.loop-k.k (omega arith) (inv.passed above under) (inv.here above under);
     }
