@@ -6,8 +6,8 @@ use solve_run::{FileId, Outcome, Status, payoff_run};
 use std::process::ExitCode;
 use std::{env, io};
 
-/// More words than any command has.
-const MOST_WORDS: usize = 1000;
+/// How many words the call takes, far more than any command has.
+const MOST_WORDS: usize = u32::MAX as usize;
 
 fn main(rt: HostRuntime) -> io::Result<ExitCode> {
     let alloc = rt.alloc();
