@@ -1,5 +1,5 @@
 -- each sweep over an unsupported table makes it fall, so a run of many sweeps has fallen far
-use Rattle.std.proofs.Common.{List, ◌≡◌, inr, ℕ, ◌+◌, ◌*◌, ◌/◌, ◌%◌, ◌<◌, ◌≤◌, [], ◌∷◌, length, Option, Some, None, refl, sym, ap, ◌∙◌, subst, arith, ℤ, pos, ◌+ℤ◌, ◌*ℤ◌, ◌≤ℤ◌, ◌<ℤ◌}
+use Rattle.std.proofs.Common.{List, ◌≡◌, inr, ℕ, suc, ◌+◌, ◌*◌, ◌/◌, ◌%◌, ◌<◌, ◌≤◌, [], ◌∷◌, length, Option, Some, None, refl, sym, ap, ◌∙◌, subst, arith, ℤ, pos, ◌+ℤ◌, ◌*ℤ◌, ◌≤ℤ◌, ◌<ℤ◌}
 use Rattle.std.specs.Prelude.{negsuc}
 use Rattle.std.proofs.Math.Nat.{mod-lt, div-add-mod, mul-le-mul}
 use Rattle.std.proofs.lemmas.Int.{ints}
@@ -10,6 +10,7 @@ use Rattle.exact_algebra.proofs.Normal.{ring}
 use Rattle.exact_algebra.proofs.Order.{at_most_trans, at_most_from_times, times_at_most}
 use Rattle.exact_algebra.proofs.Quotients.{ceiling_exists}
 use Rattle.game_model.specs.Game.{states}
+use Rattle.level_table.specs.Supported.{IsSupported}
 use Rattle.level_table.specs.declared.level.Level.{Level}
 use Rattle.level_table.specs.declared.level.Level.TheVariants.{Empty, At}
 use Rattle.level_table.specs.Problem.{Problem, direction_count}
@@ -28,7 +29,7 @@ use Rattle.bound_laws.proofs.Order.{at_most_along, swap}
 use Rattle.bound_laws.proofs.Start.{opening_is_start}
 use Rattle.pay_frac.specs.Ratio.{Ratio}
 use Rattle.solve_run.specs.Sweeps.{IsReached, IsRunTable, IsSwept, IsVerdict, direction_of, state_of}
-use Rattle.solve_run.specs.Solved.{IsEnd, IsEnough, IsSupportedVerdict}
+use Rattle.solve_run.specs.Solved.{IsAfterSweeps, IsEnd, IsEnough, IsSupportedVerdict}
 use Rattle.solve_run.specs.declared.report.Verdict.{Verdict}
 use Rattle.solve_run.specs.declared.report.Verdict.TheVariants.{Supported, Unsupported}
 
@@ -71,6 +72,16 @@ row_known p t row run below =
 row_here : (p : Problem) (t : Table) (row : ℕ) → IsRunTable p t → levels_in t (state_of p row) (direction_of p row) ≡ level_at t row
 row_here p t row run =
     subst (λ (n : ℕ). level_at t (row / n * t.directions + row % n) ≡ level_at t row) run.table.sizes.directions_agree (ap (level_at t) (div-add-mod' row t.directions))
+
+-- a table whose verdict names a row isn't supported
+pub not_supported : (p : Problem) (t : Table) (slack row : ℕ) (level : ℤ) (reached : Option Ratio) → IsRunTable p t → IsVerdict p t slack (Unsupported row level reached) → IsSupported p (levels_in t) slack → ⊥
+not_supported p t slack row level reached run (below, is, so_far, none, what) supported =
+    none (supported.supports (state_of p row) (direction_of p row) level (row_known p t row run below) (row_here p t row run ∙ is))
+
+pub one_more_sweep : (p : Problem) (slack r : ℕ) (old new : Table) → IsAfterSweeps p slack r old → (IsSupported p (levels_in old) slack → ⊥) → IsSwept p old new → IsAfterSweeps p slack (r + 1) new
+one_more_sweep p slack r old new before none swept =
+    let next : suc r ≡ r + 1 = omega arith in
+    subst (λ (n : ℕ). IsAfterSweeps p slack n new) next (old, before, none, swept)
 
 -- ---- the drop
 -- a run may begin with the opening table
