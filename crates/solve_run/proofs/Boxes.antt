@@ -216,7 +216,7 @@ sides_more p t s a n low high l h below before side =
     }
 
 -- ---- corners
-one_times : (x : ℤ) → x *ℤ pos 1 ≡ x
+pub one_times : (x : ℤ) → x *ℤ pos 1 ≡ x
 one_times x = ring (x ∷ []) (var 0 ⊗ lit (pos 1)) (var 0) refl
 
 pub corner_part : (low high num : List ℤ) (j : ℕ) → part_of low j ≤ℤ part_of num j → part_of num j ≤ℤ part_of high j → IsBetween low high (record { numerators = num; denominator = pos 1 }) j

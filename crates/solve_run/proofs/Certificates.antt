@@ -20,7 +20,8 @@ use Rattle.level_table.specs.Notes.{IsCertificate, IsItem, Keeps, coefficient, m
 use Rattle.solve_run.specs.Axes.{KeepsAxis}
 use Rattle.solve_run.specs.Reasons.{IsGainAbove, DetersFrom, KeepsHighest}
 use Rattle.solve_run.proofs.AxisSums.{plus_is, minus_is, part-negative, part-unit_same, part-unit_other}
-use Rattle.solve_run.proofs.Boxes.{HasAxes, half_plane, axis_of}
+use Rattle.solve_run.proofs.Intervals.{same_number}
+use Rattle.solve_run.proofs.Boxes.{HasAxes, one_times, half_plane, axis_of}
 
 -- ---- opposite rows
 opposite_part : (p : Problem) (i j : ℕ) → HasAxes p → i < p.game.players → part (direction p (minus_axis i)) j ≡ neg_ℤ (part (direction p (plus_axis i)) j)
@@ -82,12 +83,6 @@ gain_certificate p t s a i b h item ok player plus above =
     })
 
 -- ---- a vector that meets all rows
-one_times : (x : ℤ) → x *ℤ pos 1 ≡ x
-one_times x = ring (x ∷ []) (var 0 ⊗ lit (pos 1)) (var 0) refl
-
-pub same_number : (x y : ℤ) → At x ≡ At y → x ≡ y
-same_number x y e = cc
-
 -- where neither two such rows stand, the greatest part is one that the levels admit
 pub highest_kept : (p : Problem) (t : Levels) (s a i : ℕ) (h w : ℤ)
     → t (successor p.game s a) (plus_axis i) ≡ At h → t (successor p.game s a) (minus_axis i) ≡ At w → pos 0 ≤ℤ (h +ℤ w)

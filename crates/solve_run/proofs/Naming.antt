@@ -16,8 +16,10 @@ use Rattle.level_table.specs.Notes.{IsEarlier, IsNote, IsReason, Named, levels_o
 use Rattle.bound_laws.specs.Laws.{IsProblem, KeepsSupported}
 use Rattle.bound_laws.proofs.Notes.{noted}
 use Rattle.bound_laws.proofs.Places.{next_state, reached_state}
-use Rattle.solve_run.specs.Reasons.{HasNumbers, HasNotes, IsNoteOver, IsReasonOver, empty_states, one_if_empty, reason_at}
+use Rattle.solve_run.specs.Axes.{HasNumbers}
+use Rattle.solve_run.specs.Reasons.{HasNotes, IsNoteOver, IsReasonOver, empty_states, one_if_empty, reason_at}
 use Rattle.solve_run.specs.Sweeps.{StaysNumber}
+use Rattle.solve_run.proofs.Sides.{number_is}
 
 -- ---- one note more
 named_old : (notes : List Note) (n : Note) (u : ℕ) → Named notes u → Named (notes ++ n ∷ []) u
@@ -36,9 +38,6 @@ named_split notes n u (l, below, e) =
     (cases_lt l (length notes))
 
 -- ---- empty states
-not_empty : (l : Level) → IsNumber l → l ≡ Empty → ⊥
-not_empty l number e = let P : Level → Type 0 = IsNumber in subst P e number
-
 one_of_number : (l : Level) → (l ≡ Empty → ⊥) → one_if_empty l ≡ 0
 one_of_number Empty h = absurd (h refl)
 one_of_number (At x) h = refl
@@ -47,7 +46,7 @@ same_emptiness : (l m : Level) → AtMost m l → (IsNumber l → IsNumber m) �
 same_emptiness Empty Empty below stays = (refl, (λ e. e, λ e. e))
 same_emptiness Empty (At y) below stays = absurd below
 same_emptiness (At x) Empty below stays = absurd (stays tt)
-same_emptiness (At x) (At y) below stays = (refl, (λ e. absurd (not_empty (At x) tt e), λ e. absurd (not_empty (At y) tt e)))
+same_emptiness (At x) (At y) below stays = (refl, (λ e. absurd (number_is (At x) tt e), λ e. absurd (number_is (At y) tt e)))
 
 empty_same : (t u : Levels) (n : ℕ) → ((s : ℕ) → s < n → one_if_empty (u s 0) ≡ one_if_empty (t s 0)) → empty_states u n ≡ empty_states t n
 empty_same t u zero h = refl
@@ -93,7 +92,7 @@ pub all_empty : (p : Problem) (t : Levels) (s k : ℕ) → IsProblem p → IsEve
 all_empty p t s k ok even known e dir =
     ⊎_elim
     (λ (empty : (k : ℕ) → k < direction_count p → t s k ≡ Empty). empty k dir)
-    (λ (numbers : (k : ℕ) → k < direction_count p → IsNumber (t s k)). absurd (not_empty (t s 0) (numbers 0 (some_direction p ok)) e))
+    (λ (numbers : (k : ℕ) → k < direction_count p → IsNumber (t s k)). absurd (number_is (t s 0) (numbers 0 (some_direction p ok)) e))
     (even s known)
 
 pub notes_lowered : (p : Problem) (t u : Levels) (notes : List Note) → IsProblem p → IsBelow p u t → StaysNumber p t u → HasNotes p t notes → HasNotes p u notes
@@ -115,7 +114,7 @@ unknown_named p t notes u ok even h known none =
     (even u known)
 
 known_not_named : (p : Problem) (t : Levels) (notes : List Note) (u : ℕ) → IsProblem p → HasNotes p t notes → u < states p.game → HasNumbers (direction_count p) t u → Named notes u → ⊥
-known_not_named p t notes u ok h known numbers named = not_empty (t u 0) (numbers 0 (some_direction p ok)) ((h.named u known).0 named)
+known_not_named p t notes u ok h known numbers named = number_is (t u 0) (numbers 0 (some_direction p ok)) ((h.named u known).0 named)
 
 -- a reason over a table is one beside the notes of its empty states
 reason_from : (p : Problem) (t : Levels) (notes : List Note) (s a : ℕ) (r : Reason) → IsProblem p → IsEven p t → HasNotes p t notes → s < states p.game → a < profile_count (counts p.game s)
@@ -183,7 +182,7 @@ notes_cleared p t v notes s note ok even kept h state number over cleared others
 pub notes_of_opening : (p : Problem) (t : Levels) → IsProblem p → ((s k : ℕ) → IsRow p s k → t s k ≡ opening_table p s k) → HasNotes p t []
 notes_of_opening p t ok opening =
     let numbers : (s : ℕ) → s < states p.game → t s 0 ≡ Empty → ⊥ =
-    λ s known e. not_empty (opening_table p s 0) tt (sym (opening s 0 (record { state = known; direction = some_direction p ok })) ∙ e) in
+    λ s known e. number_is (opening_table p s 0) tt (sym (opening s 0 (record { state = known; direction = some_direction p ok })) ∙ e) in
     record {
       kept = λ l below. absurd (omega (arith, below));
       named = λ s known. (λ n. absurd (omega (arith, n.1)), λ e. absurd (numbers s known e));
@@ -205,5 +204,5 @@ named_rows p t notes ok even h s k row = (to, λ n. all_empty p t s k ok even ro
     to e =
         ⊎_elim
         (λ (empty : (j : ℕ) → j < direction_count p → t s j ≡ Empty). (h.named s row.state).1 (empty 0 (some_direction p ok)))
-        (λ (numbers : (j : ℕ) → j < direction_count p → IsNumber (t s j)). absurd (not_empty (t s k) (numbers k row.direction) e))
+        (λ (numbers : (j : ℕ) → j < direction_count p → IsNumber (t s j)). absurd (number_is (t s k) (numbers k row.direction) e))
         (even s row.state)

@@ -76,7 +76,7 @@ pub empty_side : (g : DynamicGame) (d : DirectionTable) (grid : ℕ) (t : Table)
 empty_side g d grid t s a i worst start low high h order y adm =
     nothing_between (problem_of g d grid) (levels_in t) s a i low high y (axes_of g d grid h.after.problem) h.after.player (interval_of g d grid t s a i worst start low high h) order adm
 
-number_is : (l : Level) → IsNumber l → l ≡ Empty → ⊥
+pub number_is : (l : Level) → IsNumber l → l ≡ Empty → ⊥
 number_is l number e = let P : Level → Type 0 = IsNumber in subst P e number
 
 pub empty_level : (g : DynamicGame) (d : DirectionTable) (grid : ℕ) (t : Table) (s a i k : ℕ) → IsAfter g d grid t s a i → k < 2 * g.players → levels_in t (successor g s a) k ≡ Empty

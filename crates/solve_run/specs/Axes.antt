@@ -30,9 +30,17 @@ pub record IsSmallTable (p : Problem) (t : Table) : Type 0 where
   pub sizes : IsTableOf p t
   pub small : (s k : ℕ) → IsRow p s k → IsSmall (levels_in t s k)
 
+-- each of the n levels of a state is a number
+abbrev pub HasNumbers : ℕ → Levels → ℕ → Type 0
+HasNumbers n t s = (k : ℕ) → k < n → IsNumber (t s k)
+
+-- each state that a deviation of player i to a strategy below m reaches has numbers alone
+abbrev pub ReachesNumbers : DynamicGame → ℕ → Levels → ℕ → ℕ → ℕ → ℕ → Type 0
+ReachesNumbers g n t s a i m = (b : ℕ) → b < m → IsDeviation g s a i b → HasNumbers n t (reached g s a i b)
+
 -- each level of a state is a number
 abbrev pub IsKnown : Problem → Levels → ℕ → Type 0
-IsKnown p t s = (k : ℕ) → k < direction_count p → IsNumber (t s k)
+IsKnown p t s = HasNumbers (direction_count p) t s
 
 -- what a gain in payoff counts in units of 1/E of what follows: (q - p_i) * (base / p_i) * 2^grid
 abbrev pub gain_scale_of : DynamicGame → ℕ → ℕ → ℕ
@@ -64,7 +72,7 @@ pub record IsLeast (p : Problem) (t : Levels) (s a i n : ℕ) (start low : ℤ) 
 
 -- each state that a deviation of player i to a strategy below n reaches is known
 abbrev pub AreKnown : Problem → Levels → ℕ → ℕ → ℕ → ℕ → Type 0
-AreKnown p t s a i n = (b : ℕ) → b < n → IsDeviation p.game s a i b → IsKnown p t (reached p.game s a i b)
+AreKnown p t s a i n = ReachesNumbers p.game (direction_count p) t s a i n
 
 -- the interval of player i, which has a number, with its ends within 2^50 of zero
 pub record IsSide (p : Problem) (t : Levels) (s a i : ℕ) (low high : ℤ) : Type 0 where

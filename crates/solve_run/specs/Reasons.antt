@@ -9,22 +9,14 @@ use Rattle.level_table.specs.declared.reason.Reason.{Reason}
 use Rattle.level_table.specs.declared.reason.Reason.TheVariants as reasons
 use Rattle.level_table.specs.declared.reason.Note.{Note}
 use Rattle.level_table.specs.Problem.{Problem, direction_count, plus_axis, minus_axis, gain}
-use Rattle.level_table.specs.Levels.{Levels, IsNumber, opening_table}
+use Rattle.level_table.specs.Levels.{Levels, opening_table}
 use Rattle.level_table.specs.Notes.{IsCertificate, Named, levels_of}
 use Rattle.bound_laws.specs.Laws.{HasKeptAbove}
 use Rattle.solve_run.specs.declared.reasons.Dead.{Dead}
-use Rattle.solve_run.specs.Axes.{KeepsAxis}
+use Rattle.solve_run.specs.Axes.{HasNumbers, KeepsAxis, ReachesNumbers}
 
 -- ---- states that are reached
--- each of the n levels of a state is a number
-abbrev pub HasNumbers : ℕ → Levels → ℕ → Type 0
-HasNumbers n t u = (k : ℕ) → k < n → IsNumber (t u k)
-
--- each state that a deviation of player i to a strategy below m reaches has numbers alone
-abbrev pub ReachesNumbers : DynamicGame → ℕ → Levels → ℕ → ℕ → ℕ → ℕ → Type 0
-ReachesNumbers g n t s a i m = (b : ℕ) → b < m → IsDeviation g s a i b → HasNumbers n t (reached g s a i b)
-
--- so do the deviations of each player below m
+-- the deviations of each player below m reach states that have numbers alone
 abbrev pub AllReachNumbers : DynamicGame → ℕ → Levels → ℕ → ℕ → ℕ → Type 0
 AllReachNumbers g n t s a m = (j : ℕ) → j < m → ReachesNumbers g n t s a j (slice_index (counts g s) j)
 

@@ -10,8 +10,8 @@ ghost use Rattle.level_table.specs.Levels.{levels_in, IsNumber};
 ghost use Rattle.level_table.specs.Tables.{IsWhole, problem_of};
 ghost use Rattle.level_table.specs.Notes.{IsCertificate, levels_of};
 ghost use Rattle.level_table.specs.Operator.{Fractions, Admissible};
-ghost use Rattle.solve_run.specs.Axes.{IsAxisProblem, IsSmallTable, HasAdmissible, gain_scale_of};
-ghost use Rattle.solve_run.specs.Reasons.{HasNumbers, ReachesNumbers, AllReachNumbers, IsFirstDead, IsFirstReached, IsGainAbove, HasGainAbove, DetersFrom, KeepsHighest, IsReasonOver, IsNoteOver};
+ghost use Rattle.solve_run.specs.Axes.{IsAxisProblem, IsSmallTable, HasAdmissible, gain_scale_of, HasNumbers, ReachesNumbers};
+ghost use Rattle.solve_run.specs.Reasons.{AllReachNumbers, IsFirstDead, IsFirstReached, IsGainAbove, HasGainAbove, DetersFrom, KeepsHighest, IsReasonOver, IsNoteOver};
 
 use crate::operator::{gain_scale, is_known, needed};
 use direction_set::Directions;

@@ -1,5 +1,5 @@
 use Rattle.level_table.specs.Levels.{levels_in}
-use Rattle.solve_run.specs.Reasons.{ReachesNumbers}
+use Rattle.solve_run.specs.Axes.{ReachesNumbers}
 use Rattle.solve_run.proofs.reasons.dead_strategy.Given as goal
 
 abbrev pub invariant-loop-b : goal.invariant-loop-b

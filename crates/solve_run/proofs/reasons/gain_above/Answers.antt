@@ -7,7 +7,7 @@ use Rattle.level_table.specs.declared.level.Level.TheVariants.{At}
 use Rattle.level_table.specs.Problem.{minus_axis, gain}
 use Rattle.level_table.specs.Levels.{levels_in}
 use Rattle.level_table.specs.Tables.{problem_of}
-use Rattle.solve_run.proofs.Certificates.{same_number}
+use Rattle.solve_run.proofs.Intervals.{same_number}
 use Rattle.solve_run.proofs.Counts.{next_known}
 use Rattle.solve_run.proofs.reasons.gain_above.Goals as goal
 
