@@ -6,7 +6,7 @@ ghost use Rattle.lp_core.specs.Lines.{all_seen, along, is_seen, line_at};
 ghost use Rattle.lp_core.specs.Search.{IsBest, IsEmpty, IsOutcome, IsReduced};
 ghost use Rattle.lp_core.specs.Sizes.{AreAtMost, IsSmallLine};
 ghost use Rattle.std.specs.Int.RustNames.{unsigned_abs};
-ghost use Rattle.std.specs.Prelude.{ℕ, [], ◌*ℤ◌, ◌+◌, ◌-ℤ◌, ◌<ℤ◌, ◌<◌, ◌^◌, ◌∷◌, ◌≡◌, ◌≢◌, ◌≤◌, All, IsTrue, MatchOption, false, length, pos, slice_index_or, slice_set};
+ghost use Rattle.std.specs.Prelude.{ℕ, [], ◌↔◌, ◌*ℤ◌, ◌+◌, ◌-ℤ◌, ◌<ℤ◌, ◌<◌, ◌^◌, ◌∷◌, ◌≡◌, ◌≢◌, ◌≤◌, All, IsTrue, MatchOption, false, length, pos, slice_index_or, slice_set};
 
 use crate::corner::corner;
 use crate::elimination::pivot_of;
@@ -60,7 +60,7 @@ fn lifted(
 
 /// Whether a variable is the only one that is live.
 fn is_alone(live: [bool; 3], place: usize) -> bool
-    ensures { IsTrue result → (k : ℕ) → k < 3 → k ≢ place → slice_index_or live k false ≡ false }
+    ensures { IsTrue result ↔ ((k : ℕ) → k < 3 → k ≢ place → slice_index_or live k false ≡ false) }
 {
     for k in 0..3usize {
         if k != place && live[k] {
@@ -165,7 +165,7 @@ fn on_plane(
     }
 }
 
-/// Takes one more row into account.
+/// Takes one more row into account. The optimum meets the box of the live variables from the start.
 #[cycle(search)]
 fn tightened(
     program: &Reduced,
@@ -178,6 +178,9 @@ fn tightened(
     requires best { IsBest (is_seen program.now.live r) program.now objective best.old }
     ensures { MatchOption result (IsBest (is_seen program.now.live (r + 1)) program.now objective best.new) (IsEmpty program.now) }
 {
+    if is_seen(program.live, r, r) {
+        return None;
+    }
     let line = program.line(r);
     if meets(line, best.num, best.den) {
         return None;

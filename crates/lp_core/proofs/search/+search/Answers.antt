@@ -4,7 +4,7 @@ use Rattle.std.specs.Int.{w128}
 use Rattle.std.specs.Int.RustNames.{FitsSigned}
 use Rattle.std.proofs.lemmas.Int.{to_z-of_z}
 use Rattle.lp_cert.specs.Program.{entry}
-use Rattle.lp_core.specs.Lines.{along, line_at}
+use Rattle.lp_core.specs.Lines.{along, is_seen, line_at}
 use Rattle.lp_core.specs.Sizes.{level}
 use Rattle.lp_core.specs.Search.{IsEmpty}
 use Rattle.lp_core.proofs.Back.{best_back, empty_back, met_more, only_empty}
@@ -204,3 +204,13 @@ on_plane-returns-in-Infeasible t c =
     let s : IsStep P o r p Q rest = record { reduced = c.requires.reduced; within = c.requires.within; line = from; live = c.reduced.ensures.live; count = c.reduced.ensures.length; each = c.reduced.ensures.lines; is_rest = c.rest.ensures } in
     let items = c.in-Infeasible.items in
     empty_back P o r p Q rest s b items c.lifted_items.result c.requires.best (subst (λ x. (x.h *ℤ b.den) <ℤ along x.c b.num) (sym c.in-Some.ensures) c.requires.broken) c.in-Infeasible.ensures c.lifted_items.ensures
+
+pub tightened-returns-then-is_seen : goal.tightened-returns-then-is_seen
+tightened-returns-then-is_seen t c =
+    let P = c.args.program.now in
+    let r = c.args.r in
+    let seen : is_seen P.live r r ≡ true = sym c.is_seen.ensures ∙ c.if-is_seen.true in
+    met_more P c.args.objective r c.args.best.now c.requires.best (c.requires.best.met.each r c.requires.within seen)
+
+pub tightened-meets-requires-clause-num : goal.tightened-meets-requires-clause-num
+tightened-meets-requires-clause-num t c = num_fits (level c.args.program.now.live) c.args.best.now.num c.requires.best.num
