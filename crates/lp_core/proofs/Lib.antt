@@ -4,10 +4,14 @@ pub mod Back
 pub mod Boxes
 pub mod Corners
 pub mod Duality
+pub mod Edges
+pub mod Ends
 pub mod Filters
 pub mod Fits
+pub mod Halves
 pub mod Levels
 pub mod Lift
+pub mod Narrow
 pub mod Smaller
 pub mod Steps
 pub mod Sums

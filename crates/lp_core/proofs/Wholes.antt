@@ -18,20 +18,20 @@ use Rattle.lp_core.specs.Whole.{IsWhole}
 use Rattle.lp_core.proofs.Along.{along_dot}
 use Rattle.lp_core.proofs.Levels.{level_is}
 
-below_true : (k d : ℕ) → k < d → nat_lt k d ≡ true
+pub below_true : (k d : ℕ) → k < d → nat_lt k d ≡ true
 below_true k d h = grind (arith, nat_tests)
 
-below_false : (k d : ℕ) → d ≤ k → nat_lt k d ≡ false
+pub below_false : (k d : ℕ) → d ≤ k → nat_lt k d ≡ false
 below_false k d h = grind (arith, nat_tests)
 
-from_true : (k d : ℕ) → nat_lt k d ≡ true → k < d
+pub from_true : (k d : ℕ) → nat_lt k d ≡ true → k < d
 from_true k d h = grind (arith, nat_tests)
 
 from_false : (k d : ℕ) → nat_lt k d ≡ false → d ≤ k
 from_false k d h = grind (arith, nat_tests)
 
 -- the number of live variables is the dimension
-whole_level : (p : Program) (q : Reduced) → IsProgram p → IsWhole p q → level q.live ≡ p.dimension
+pub whole_level : (p : Program) (q : Reduced) → IsProgram p → IsWhole p q → level q.live ≡ p.dimension
 whole_level p q h w = level_is q.live ∙ count p.dimension h.some h.few (w.live 0 (lit< tt)) (w.live 1 (lit< tt)) (w.live 2 (lit< tt))
   where
     add : (a b d m : ℕ) → 0 + a + b + d ≡ m → (x y z : ℕ) → x ≡ a → y ≡ b → z ≡ d → 0 + x + y + z ≡ m

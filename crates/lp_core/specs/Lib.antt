@@ -3,6 +3,7 @@ pub mod Corner
 pub mod Elimination
 pub mod Kept
 pub mod Lines
+pub mod Planar
 pub mod Search
 pub mod Sizes
 pub mod Whole

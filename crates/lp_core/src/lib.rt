@@ -1,16 +1,21 @@
 //! Linear programs of one to three variables, solved exactly, with certificates.
 #![tactic(auto)]
 
-ghost use Rattle.lp_cert.specs.Program.{Meets, entry};
+ghost use Rattle.lp_cert.specs.Program.{IsProgram, Meets, entry};
 ghost use Rattle.lp_cert.specs.Program.{Point as FractionVector};
 ghost use Rattle.lp_core.specs.Answer.{IfBest, IfInfeasible, IsBestPoint, IsInfeasible, IsProof};
+ghost use Rattle.lp_core.specs.Lines.{all_seen};
+ghost use Rattle.lp_core.specs.Planar.{whole_of};
+ghost use Rattle.lp_core.specs.Search.{IsOutcome};
 ghost use Rattle.std.specs.Int.RustNames.{unsigned_abs};
 ghost use Rattle.std.specs.Prelude.{ℕ, ◌↔◌, ◌≡◌, ◌≤◌, All, pos};
 
 mod corner;
+mod edge;
 mod elimination;
 mod kept;
 mod pivot;
+mod planar;
 mod reduced;
 mod search;
 #[cfg(test)]
@@ -42,6 +47,21 @@ pub enum LpAnswer {
     },
 }
 
+/// What a program comes to, by the walk in 64 bits if it can be taken, or else by the search in all variables.
+fn outcome(rows: &Rows, objective: [i32; 3]) -> Outcome
+    requires objective { All (λ x. unsigned_abs x ≤ 4096) objective }
+    requires zeros { (k : ℕ) → rows.now.dimension ≤ k → entry objective k ≡ pos 0 }
+    ensures outcome { IsOutcome all_seen (whole_of rows.now) objective result }
+    ensures program { IsProgram rows.now }
+{
+    if rows.dimension() == 2 {
+        if let Some(outcome) = planar::walk(rows, objective) {
+            return outcome;
+        }
+    }
+    search::solved(&reduced::whole(rows), reduced::widened(objective))
+}
+
 /// The greatest value of the objective over the points that meet the rows, or a proof that there is none.
 ///
 /// Entries of the objective are at most 4096 in absolute value, and 0 past the dimension of the rows. The value and the parts
@@ -58,12 +78,10 @@ pub fn solve(rows: &Rows, objective: [i32; 3]) -> LpAnswer
     ensures farkas { IfInfeasible result (IsProof rows.now) }
     ensures infeasible { IsInfeasible result ↔ ((y : FractionVector) → Meets rows.now y → ⊥) }
 {
-    let wide = reduced::widened(objective);
-    let program = reduced::whole(rows);
-    match search::solved(&program, wide) {
+    match outcome(rows, objective) {
         Outcome::Best(best) => {
             let num = best.num;
-            let value = reduced::product(wide, num);
+            let value = reduced::product(reduced::widened(objective), num);
             LpAnswer::Best {
                 point: Point { num, den: best.den },
                 value,

@@ -22,7 +22,7 @@ pub enum Outcome {
 }
 
 /// A row alone, once.
-fn only(r: u32) -> Multipliers
+pub fn only(r: u32) -> Multipliers
     ensures { result ≡ (r, pos 1) ∷ [] }
 {
     let mut items = Multipliers::new();
