@@ -4,7 +4,6 @@ pub mod Certificates
 pub mod Completeness
 pub mod Counts
 pub mod Drops
-pub mod Existence
 pub mod Farthest
 pub mod FractionLemmas
 pub mod Intervals

@@ -2,7 +2,6 @@
 #![tactic(auto)]
 
 mod game;
-mod laws;
 mod operator;
 mod outcome;
 mod reasons;
@@ -15,7 +14,6 @@ mod text;
 mod words;
 mod write;
 
-pub use laws::{iterates_exist, row_level_exists};
 pub use outcome::{FileId, Outcome, Status};
 pub use report::{Point, Report, Support, Verdict};
 pub use run::payoff_run;
