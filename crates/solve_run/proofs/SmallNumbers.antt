@@ -1,12 +1,12 @@
 -- a number of small parts in lowest terms, and a file that is no game's
-use Rattle.std.proofs.Common.{◌≡◌, ℕ, zero, suc, ◌+◌, ◌*◌, ◌<◌, ◌≤◌, List, length, Option, Some, None, refl, sym, ◌∙◌, subst, arith, ⊎_elim, ℤ, pos, negsuc, ◌*ℤ◌, ◌≤ℤ◌, ◌<ℤ◌, to_z, of_z}
+use Rattle.std.proofs.Common.{◌≡◌, ℕ, zero, suc, ◌+◌, ◌*◌, ◌<◌, ◌≤◌, List, length, Option, Some, None, refl, sym, ap, ◌∙◌, subst, arith, ⊎_elim, ℤ, pos, negsuc, ◌*ℤ◌, ◌≤ℤ◌, ◌<ℤ◌, to_z, of_z}
 use Rattle.std.specs.Option.{IfSome}
 use Rattle.std.specs.Int.{IsGcd, ◌∣◌, w128}
 use Rattle.std.specs.Int.RustNames.{unsigned_abs}
 use Rattle.std.proofs.lemmas.Int.{ints, to_z-of_z, fits_signed_from_abs}
 use Rattle.std.proofs.Math.Nat.{le_of_dvd, dvd-mul_right, mul-le-mul, mul_comm}
 use Rattle.std.proofs.lemmas.Bool.{cases_lt}
-use Rattle.pay_frac.specs.Ratio.{Ratio, IsLowest}
+use Rattle.pay_frac.specs.Ratio.{Ratio, IsLowest, Equals}
 use Rattle.pay_frac.proofs.Coprime.{gauss, positive_product}
 use Rattle.nfg_text.specs.declared.nfg.Nfg.{Nfg}
 use Rattle.nfg_text.specs.PlainFile.{IsPlainFile}
@@ -67,6 +67,12 @@ small_by_code r x y p q lowest number ex ey ep eq =
     let first : s.p ≡ p = omega (arith, ints, ep ∙ back x r.num s.p ex s.num few) in
     let second : s.q ≡ q = omega (arith, ints, eq ∙ back y r.den s.q ey s.den s.discount.small) in
     subst (λ (m : ℕ). IsSmallDiscount m q) first (subst (λ (m : ℕ). IsSmallDiscount s.p m) second s.discount)
+
+-- the same number by whole parts
+pub same_number : (r : Ratio) (p q n d : ℕ) → pos p ≡ r.num → pos q ≡ r.den → Equals r (pos n) (pos d) → p * d ≡ n * q
+same_number r p q n d num den equal =
+    let e : pos p *ℤ pos d ≡ pos n *ℤ pos q = ap (λ z. z *ℤ pos d) num ∙ equal ∙ ap (λ z. pos n *ℤ z) (sym den) in
+    omega (arith, ints, e)
 
 pub bad_file : (file : Option (List ℕ)) (items seen : List ℕ) (at : ℕ) → seen ≡ items → length items ≤ longest_file → IfSome file (λ b. items ≡ b) → (at ≡ 0) × ((n : Nfg) → IsPlainFile seen n → ⊥)
     → (at ≡ 0) × IfSome file (λ bytes. (length bytes ≤ longest_file) × ((n : Nfg) → IsPlainFile bytes n → ⊥))

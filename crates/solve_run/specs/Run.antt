@@ -1,5 +1,5 @@
 -- What the top call promises: which answer comes from which cause, what the report is, and what the sink has then taken.
-use Rattle.std.specs.Prelude.{◌≡◌, ℕ, ◌+◌, ◌<◌, ◌≤◌, List, ◌++◌, length, take, Option, Some, None, IfSome, pos}
+use Rattle.std.specs.Prelude.{◌≡◌, ℕ, ◌+◌, ◌*◌, ◌<◌, ◌≤◌, List, ◌++◌, length, take, Option, Some, None, IfSome, pos}
 use Rattle.std.specs.Option.{option_map}
 use Rattle.pay_frac.specs.Ratio.{Ratio, Equals}
 use Rattle.pay_outside.specs.Counts.{Rose}
@@ -84,7 +84,7 @@ pub record IsSmallNumber (r : Ratio) : Type 0 where
   pub small : denominator ≤ 16
   pub same : Equals r (pos numerator) (pos denominator)
 
--- The report is that of the game in the file, with the discount factor p/q and the settings of the words.
+-- The report is that of the game in the file, with the settings of the words. The discount factor p/q, in lowest terms, is the number that the words spell.
 pub record IsAnswer (words : List (List ℕ)) (file : Option (List ℕ)) (report : Report) : Type 0 where
   pub set : Settings
   pub is_solve : IsSolve words set
@@ -93,7 +93,7 @@ pub record IsAnswer (words : List (List ℕ)) (file : Option (List ℕ)) (report
   pub p : ℕ
   pub q : ℕ
   pub discount : IsSmallDiscount p q
-  pub same : Equals set.discount (pos p) (pos q)
+  pub same : p * is_solve.denominator ≡ is_solve.numerator * q
   pub is_report : IsReportOf (problem_of (plain_game game p q) axes_of_two set.grid) set.slack set.budget report
 
 -- the status of a report whose whole text was taken

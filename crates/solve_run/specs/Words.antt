@@ -1,7 +1,7 @@
 -- The words of the command line.
 use Rattle.std.specs.Prelude.{◌≡◌, ◌⊎◌, ℕ, ◌+◌, ◌<◌, ◌≤◌, ◌++◌, List, [], ◌∷◌, length, map, slice_index_or, codes, true, pos, Some, String, string_bytes}
 use Rattle.std.specs.declared.alloc.Global.{Global}
-use Rattle.pay_frac.specs.Ratio.{Equals}
+use Rattle.pay_frac.specs.Ratio.{IsLowest, Equals}
 use Rattle.nfg_text.specs.PlainFile.{all_digits, digits_value}
 use Rattle.solve_run.specs.declared.words.Settings.{Settings}
 
@@ -94,6 +94,7 @@ pub record IsSolve (words : List (List ℕ)) (set : Settings) : Type 0 where
   pub denominator : ℕ
   pub discount_word : IsDiscountWord (word_at words 2) numerator denominator
   pub discount : Equals set.discount (pos numerator) (pos denominator)
+  pub lowest : IsLowest set.discount
   pub directions_word : word_at words 3 ≡ codes "directions=4"
   pub directions : set.directions ≡ Some 4
   pub grid : IsGridWord (word_at words 4) set.grid

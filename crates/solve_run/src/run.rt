@@ -1,7 +1,6 @@
 //! The top call.
 
 ghost use Rattle.std.specs.Prelude.{◌≡◌, ℕ, ◌<◌, ◌^◌, ◌≤ℤ◌, length, pos, IfOk, IfErr};
-ghost use Rattle.pay_frac.specs.Ratio.{Equals};
 ghost use Rattle.solve_run.specs.PlainGame.{IsSmallDiscount};
 ghost use Rattle.solve_run.specs.ReportText.{IsPrintable};
 ghost use Rattle.solve_run.specs.Run.{Causes, IsAnswer, IsCause, IsFileFault, IsComplete, IsFileOf, IsSmallNumber, IsStatusOf, IsWritten, file_name, load_of, taking_of};
@@ -106,12 +105,20 @@ fn solve<S: Shelf>(alloc: Global, words: &[String], shelf: &mut S) -> Result<Rep
         Ok(set) => set,
         Err(fault) => return Err(Status::Usage { index: fault.index }),
     };
-    let file = read_file(alloc, words[1].as_str(), shelf)?;
+    let file = read_file(alloc, name_in(words), shelf)?;
     let (p, q) = small_discount(&set.discount);
     match report_of(alloc, &file, &set, p, q) {
         Ok(report) => Ok(report),
         Err(_) => Err(Status::NoMemory),
     }
+}
+
+/// The name of the file among the words.
+fn name_in(words: &[String]) -> &str
+    requires { 1 < length words.now }
+    ensures { result.now ≡ file_name (words_in words.now) }
+{
+    words[1].as_str()
 }
 
 /// The game in the file of this name.
@@ -138,7 +145,8 @@ fn read_file<S: Shelf>(alloc: Global, name: &str, shelf: &mut S) -> Result<Nfg, 
 fn small_discount(discount: &Frac) -> (u32, u32)
     requires { IsSmallNumber discount.now }
     ensures small { IsSmallDiscount result.0 result.1 }
-    ensures same { Equals discount.now (pos result.0) (pos result.1) }
+    ensures numerator { pos result.0 ≡ discount.now.num }
+    ensures denominator { pos result.1 ≡ discount.now.den }
 {
     (small(discount.num()), small(discount.den()))
 }

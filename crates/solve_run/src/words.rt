@@ -1,6 +1,6 @@
 //! The words of the command line.
 
-ghost use Rattle.pay_frac.specs.Ratio.{Equals};
+ghost use Rattle.pay_frac.specs.Ratio.{Equals, IsLowest};
 ghost use Rattle.solve_run.specs.Words.{FitsBelow, IsBudgetOf, IsBudgetWord, IsDigits, IsDiscountWord, IsGridWord, IsMisfit, IsOnlyFit, IsRatioText, IsSolve, word_at, words_in};
 ghost use Rattle.std.specs.Prelude.{IfErr, IfNone, IfSome, IfOk, OnOk, length, pos, ◌++◌, ◌+◌, ◌<◌, ◌^◌, ◌≡◌, ◌≢◌, ◌≤◌, ℕ, List, EachIndex, slice_index, [], ◌∷◌, codes};
 ghost use Rattle.solve_run.specs.declared.words.Settings.{Settings};
@@ -129,6 +129,7 @@ fn discount_of(words: &[String]) -> Result<Frac, UsageFault>
     requires { FitsBelow (words_in words.now) 2 }
     ensures fits { OnOk result (FitsBelow (words_in words.now) 3) }
     ensures value { IfOk result (λ d. (p : ℕ) × (r : ℕ) × (IsDiscountWord (word_at (words_in words.now) 2) p r × Equals d (pos p) (pos r))) }
+    ensures lowest { IfOk result IsLowest }
     ensures misfit { IfErr result (λ f. IsMisfit (words_in words.now) f.index) }
 {
     discount_word(word(words, 2)?).ok_or(UsageFault { index: 2 })
@@ -184,6 +185,7 @@ fn no_more(words: &[String]) -> Result<(), UsageFault>
 /// The discount factor that `discount=P/R` spells.
 fn discount_word(word: &[u8]) -> Option<Frac>
     ensures some { IfSome result (λ d. (p : ℕ) × (r : ℕ) × (IsDiscountWord word.now p r × Equals d (pos p) (pos r))) }
+    ensures lowest { IfSome result IsLowest }
     ensures none { IfNone result ((p r : ℕ) → IsDiscountWord word.now p r → ⊥) }
 {
     let (p, r) = ratio_text(after(word, b"discount=")?)?;
