@@ -47,12 +47,12 @@ reached_row_level : (p : Problem) (t : Levels) (s k : ℕ) (reached : Option Rat
 reached_row_level p t s k None ok h = (Empty, h)
 reached_row_level p t s k (Some r) ok h =
     let top : ℤ = value p s h.profile k h.vector in
-    let positive : pos 0 <ℤ value_unit p h.vector = value_unit_positive p h.vector ok h.admissible.positive in
+    let positive : pos 0 <ℤ value_unit p h.vector = value_unit_positive p h.vector ok h.first.admissible.positive in
     let up : (m : ℤ) × IsCeiling top (value_unit p h.vector) m = ceiling_exists top (value_unit p h.vector) positive in (
       At up.0,
       (
-        (λ a y known adm. within_bound up.0 (pos p.game.q) top h.vector.denominator (value p s a k y) y.denominator h.admissible.positive adm.positive up.1.reaches (h.largest a y known adm)),
-        record { profile = h.profile; vector = h.vector; known = h.known; admissible = h.admissible; above = up.1.no_less },
+        (λ a y known adm. within_bound up.0 (pos p.game.q) top h.vector.denominator (value p s a k y) y.denominator h.first.admissible.positive adm.positive up.1.reaches (h.first.largest a y known adm)),
+        record { profile = h.profile; vector = h.vector; known = h.first.known; admissible = h.first.admissible; above = up.1.no_less },
       ),
     )
 

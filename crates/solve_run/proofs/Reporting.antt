@@ -104,7 +104,7 @@ printable_one : (p : Problem) (t : Table) (slack n rows : ℕ) (added : Option S
 printable_one p t slack n rows None verdict below = all_of_none (λ (s : Support). (s.row < rows) × IsFraction s.point.num s.point.den)
 printable_one p t slack n rows (Some support) (x, here, row, fine) below =
     all_of_one (λ (s : Support). (s.row < rows) × IsFraction s.point.num s.point.den) support
-    (omega (arith, row, below), record { positive = fine.admissible.positive; not_least = not_least support.point.num fine.small })
+    (omega (arith, row, below), record { positive = fine.first.admissible.positive; not_least = not_least support.point.num fine.small })
 
 printable_all : (p : Problem) (t : Table) (slack n rows : ℕ) (supports : List Support) → AreSupports p t slack n supports → n ≤ rows → All (λ (s : Support). (s.row < rows) × IsFraction s.point.num s.point.den) supports
 printable_all p t slack zero rows supports e below = subst (All (λ (s : Support). (s.row < rows) × IsFraction s.point.num s.point.den)) (sym e) (all_of_none (λ (s : Support). (s.row < rows) × IsFraction s.point.num s.point.den))

@@ -12,7 +12,7 @@ use Rattle.game_model.specs.Game.{counts, profile_count}
 use Rattle.level_table.specs.Problem.{Problem}
 use Rattle.level_table.specs.Levels.{Levels}
 use Rattle.level_table.specs.Operator.{Fractions, Admissible, value}
-use Rattle.pay_frac.specs.Ratio.{Ratio, Equals}
+use Rattle.pay_frac.specs.Ratio.{Ratio, IsLowest, Equals}
 use Rattle.exact_algebra.specs.Quotients.{IsCeiling}
 use Rattle.solve_run.specs.declared.operator.Best.{Best}
 use Rattle.solve_run.specs.Axes.{IsBest, IsSmallBest, IsBestOf, IsBestFound, IsBestSoFar, IsLevelAnswer, point_of}
@@ -159,9 +159,9 @@ same_ratio r x v q d is h =
     ∙ ap (λ z. z *ℤ d) h ∙ swapped v d r.den ∙ ap (λ z. z *ℤ r.den) (sym is)
 
 pub level_answer : (p : Problem) (t : Levels) (s k : ℕ) (best : Best) (level : ℤ) (r : Ratio)
-    → IsBestFound p t s k (profile_count (counts p.game s)) best → 0 < p.game.q → IsCeiling best.value (pos p.game.q) level → Equals r best.value (pos p.game.q)
+    → IsBestFound p t s k (profile_count (counts p.game s)) best → 0 < p.game.q → IsCeiling best.value (pos p.game.q) level → IsLowest r → Equals r best.value (pos p.game.q)
     → IsLevelAnswer p t s k level best.profile best.point r
-level_answer p t s k best level r h positive ceiling equal =
+level_answer p t s k best level r h positive ceiling lowest equal =
     let d : pos 0 <ℤ best.point.den = subst (λ z. pos 0 <ℤ z) (sym h.small.den_is_one) (omega (arith, ints)) in
     record {
       row_level = (
@@ -177,6 +177,7 @@ level_answer p t s k best level r h positive ceiling equal =
       level_small = level_small p.game.q (2 ^ 50) best.value level positive h.small.value_small ceiling;
       profile_known = h.first.known;
       admissible = h.first.best.admissible;
+      reached_lowest = lowest;
       reached_is = same_ratio r (value p s best.profile k (point_of best.point)) best.value (pos p.game.q) best.point.den h.first.best.here equal;
       largest = λ a y below adm. crossed (value p s a k y) (value p s best.profile k (point_of best.point)) best.value best.point.den y.denominator d h.first.best.here (h.first.largest a y below adm);
       first = λ a y below adm. crossed_below (value p s a k y) (value p s best.profile k (point_of best.point)) best.value best.point.den y.denominator d h.first.best.here (h.first.first a y below adm);

@@ -20,7 +20,7 @@ use Rattle.bound_laws.proofs.Order.{at_most_along, swap}
 use Rattle.solve_run.specs.Axes.{IsLevelAnswer, point_of}
 use Rattle.solve_run.specs.declared.report.Point.{Point}
 use Rattle.solve_run.specs.declared.report.Support.{Support}
-use Rattle.solve_run.specs.Sweeps.{IsRunTable, AreSupports, AreSupported, IsRowVerdict, IsVerdict, state_of, direction_of}
+use Rattle.solve_run.specs.Sweeps.{IsFirstLargest, IsRunTable, AreSupports, AreSupported, IsRowVerdict, IsVerdict, state_of, direction_of}
 use Rattle.solve_run.specs.declared.settle.RowVerdict.TheVariants.{Fine, Unsupported}
 use Rattle.solve_run.specs.declared.report.Verdict.TheVariants as verdicts
 use Rattle.pay_frac.specs.Ratio.{Ratio}
@@ -84,8 +84,8 @@ supported_from p t slack (suc n) supports (before, added, so_far, is, fine) row 
         record {
           profile = support.profile;
           vector = point_of support.point;
-          known = h.profile;
-          admissible = h.admissible;
+          known = h.first.known;
+          admissible = h.first.admissible;
           above = subst (λ (w : ℤ). ((w -ℤ pos slack) *ℤ value_unit p (point_of support.point)) <ℤ value p (state_of p n) support.profile (direction_of p n) (point_of support.point)) e h.above;
         }
       where
@@ -106,6 +106,10 @@ table_supported p t slack supports run all = record {
 }
 
 -- ---- what the code answers
+-- the profile and the point of a row's answer
+first_largest : (p : Problem) (t : Levels) (s k : ℕ) (level : ℤ) (profile : ℕ) (point : Point) (r : Ratio) → IsLevelAnswer p t s k level profile point r → IsFirstLargest p t s k profile (point_of point)
+first_largest p t s k level profile point r a = record { known = a.profile_known; admissible = a.admissible; largest = a.largest; first = a.first }
+
 -- a row by its state and direction
 row_small : (p : Problem) (t : Table) (row : ℕ) → IsRunTable p t → row < length t.levels → IsSmall (level_at t row)
 row_small p t row run below =
@@ -134,7 +138,7 @@ some_by_code p t slack row n level z found profile point r problem is e back ans
     subst (λ (w : ℤ). IsRowVerdict p t slack row (Unsupported w (Some r))) (sym back) (
       is,
       none_above p (levels_in t) (state_of p row) (direction_of p row) found (level -ℤ pos slack) problem a.row_level most,
-      record { profile = profile; vector = point_of point; known = a.profile_known; admissible = a.admissible; here = a.reached_is; largest = a.largest },
+      record { lowest = a.reached_lowest; profile = profile; vector = point_of point; first = first_largest p (levels_in t) (state_of p row) (direction_of p row) found profile point r a; here = a.reached_is },
     )
 
 pub fine_by_code : (p : Problem) (t : Table) (slack row n : ℕ) (level found : ℤ) (profile : ℕ) (point : Point) (r : Ratio) → IsProblem p → level_at t row ≡ At level → n ≡ direction_count p
@@ -145,8 +149,7 @@ fine_by_code p t slack row n level found profile point r problem is e answer hig
       is,
       refl,
       record {
-        profile = a.profile_known;
-        admissible = a.admissible;
+        first = first_largest p (levels_in t) (state_of p row) (direction_of p row) found profile point r a;
         above = point_supports p (levels_in t) (state_of p row) (direction_of p row) found (level -ℤ pos slack) profile (point_of point) problem a.row_level a.admissible a.largest high;
         small = a.num_small;
       },

@@ -9,7 +9,7 @@ use Rattle.level_table.specs.Levels.{Levels, Table, IsTableOf, IsRow, IsNumber, 
 use Rattle.level_table.specs.Tables.{IsWhole}
 use Rattle.level_table.specs.declared.level.Level.TheVariants.{Empty, At}
 use Rattle.level_table.specs.Operator.{Fractions, Admissible, IsRowLevel, value, value_unit}
-use Rattle.pay_frac.specs.Ratio.{Ratio, Equals}
+use Rattle.pay_frac.specs.Ratio.{Ratio, IsLowest, Equals}
 use Rattle.solve_run.specs.declared.report.Point.{Point}
 use Rattle.solve_run.specs.declared.operator.Best.{Best}
 use Rattle.solve_run.specs.declared.operator.RowAnswer.{RowAnswer}
@@ -152,12 +152,13 @@ pub record HasAdmissible (p : Problem) (t : Levels) (s : ℕ) : Type 0 where
   pub known : profile < profile_count (counts p.game s)
   pub admissible : Admissible p t s profile vector
 
--- a profile of the state, an admissible point whose value is the largest of all profiles, and the least whole number that is not below this value
+-- a profile of the state, an admissible point whose value is the largest of all profiles, the least whole number that is not below this value, and the value in lowest terms
 pub record IsLevelAnswer (p : Problem) (t : Levels) (s k : ℕ) (level : ℤ) (profile : ℕ) (point : Point) (reached : Ratio) : Type 0 where
   pub row_level : IsRowLevel p t s k (At level)
   pub level_small : IsSmall (At level)
   pub profile_known : profile < profile_count (counts p.game s)
   pub admissible : Admissible p t s profile (point_of point)
+  pub reached_lowest : IsLowest reached
   pub reached_is : Equals reached (value p s profile k (point_of point)) (value_unit p (point_of point))
   pub largest : (a : ℕ) (y : Fractions) → a < profile_count (counts p.game s) → Admissible p t s a y → (value p s a k y *ℤ point.den) ≤ℤ (value p s profile k (point_of point) *ℤ y.denominator)
   -- each earlier profile's values are below it

@@ -3,7 +3,7 @@ use Rattle.std.specs.Prelude.{◌≡◌, ◌⊎◌, ℕ, zero, suc, ◌/◌, ◌
 use Rattle.std.specs.Int.{int_min}
 use Rattle.std.specs.Option.{option_to_list}
 use Rattle.std.specs.Int.RustNames.{unsigned_abs}
-use Rattle.pay_frac.specs.Ratio.{Ratio, Equals}
+use Rattle.pay_frac.specs.Ratio.{Ratio, IsLowest, Equals}
 use Rattle.game_model.specs.Game.{counts, profile_count}
 use Rattle.level_table.specs.declared.level.Level.{Level}
 use Rattle.level_table.specs.declared.level.Level.TheVariants.{Empty, At}
@@ -52,10 +52,16 @@ pub record IsSwept (p : Problem) (old new : Table) : Type 0 where
   pub step : IsStep p old new
   pub passed : PassesRowLevels p (levels_in old) (levels_in new)
 
--- The support is a profile and a point within 2^50 of zero that is admissible under the table and has a value above the row's level less the slack.
+-- The vector is admissible after the profile, no admissible value of the state is greater than its own, and each earlier profile's are less.
+pub record IsFirstLargest (p : Problem) (t : Levels) (s k a : ℕ) (y : Fractions) : Type 0 where
+  pub known : a < profile_count (counts p.game s)
+  pub admissible : Admissible p t s a y
+  pub largest : (b : ℕ) (z : Fractions) → b < profile_count (counts p.game s) → Admissible p t s b z → (value p s b k z *ℤ y.denominator) ≤ℤ (value p s a k y *ℤ z.denominator)
+  pub first : (b : ℕ) (z : Fractions) → b < a → Admissible p t s b z → (value p s b k z *ℤ y.denominator) <ℤ (value p s a k y *ℤ z.denominator)
+
+-- The support is the first profile of the largest value, and a point within 2^50 of zero that has it. The value is above the row's level less the slack.
 pub record IsSupportOf (p : Problem) (t : Table) (slack : ℕ) (support : Support) (s k : ℕ) (x : ℤ) : Type 0 where
-  pub profile : support.profile < profile_count (counts p.game s)
-  pub admissible : Admissible p (levels_in t) s support.profile (point_of support.point)
+  pub first : IsFirstLargest p (levels_in t) s k support.profile (point_of support.point)
   pub above : ((x -ℤ pos slack) *ℤ value_unit p (point_of support.point)) <ℤ value p s support.profile k (point_of support.point)
   pub small : HasSmallParts support.point.num
 
@@ -66,14 +72,13 @@ state_of p row = row / direction_count p
 abbrev pub direction_of : Problem → ℕ → ℕ
 direction_of p row = row % direction_count p
 
--- the largest admissible value of a state in a direction
+-- the largest admissible value of a state in a direction, in lowest terms
 pub record IsLargestValue (p : Problem) (t : Levels) (s k : ℕ) (r : Ratio) : Type 0 where
+  pub lowest : IsLowest r
   pub profile : ℕ
   pub vector : Fractions
-  pub known : profile < profile_count (counts p.game s)
-  pub admissible : Admissible p t s profile vector
+  pub first : IsFirstLargest p t s k profile vector
   pub here : Equals r (value p s profile k vector) (value_unit p vector)
-  pub largest : (a : ℕ) (y : Fractions) → a < profile_count (counts p.game s) → Admissible p t s a y → (value p s a k y *ℤ vector.denominator) ≤ℤ (value p s profile k vector *ℤ y.denominator)
 
 -- what is reached in a row that isn't supported: the largest value, or none where nothing is admissible
 abbrev pub IsReached : Problem → Levels → ℕ → ℕ → Option Ratio → Type 0

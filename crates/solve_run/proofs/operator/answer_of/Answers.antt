@@ -37,4 +37,4 @@ returns c =
     let fits : FitsSigned w64 c.ceil_div.result = level_fits (problem_of c.args.game.now c.args.dirs.now c.args.grid) c.args.found c.ceil_div.result c.requires.found.small positive ceiling in
     let same : to_z w64 (of_z w64 (to_z w128 (of_z w128 c.ceil_div.result))) ≡ c.ceil_div.result = rw (to_z-of_z w128 c.ceil_div.result wide) (to_z-of_z w64 c.ceil_div.result fits) in
     subst (λ z. IsLevelAnswer (problem_of c.args.game.now c.args.dirs.now c.args.grid) (levels_in c.args.levels.now) c.args.s c.args.dir z c.args.found.profile c.args.found.point c.of.result) (sym same)
-    (level_answer (problem_of c.args.game.now c.args.dirs.now c.args.grid) (levels_in c.args.levels.now) c.args.s c.args.dir c.args.found c.ceil_div.result c.of.result c.requires.found positive ceiling equal)
+    (level_answer (problem_of c.args.game.now c.args.dirs.now c.args.grid) (levels_in c.args.levels.now) c.args.s c.args.dir c.args.found c.ceil_div.result c.of.result c.requires.found positive ceiling c.of.ensures.lowest equal)
