@@ -1,4 +1,5 @@
 pub mod Axes
+pub mod Endings
 pub mod PlainGame
 pub mod Reasons
 pub mod ReportText

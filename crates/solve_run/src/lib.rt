@@ -1,6 +1,7 @@
 //! The top call: from words and files to a report.
 #![tactic(auto)]
 
+mod ending;
 mod game;
 mod operator;
 mod outcome;
@@ -14,6 +15,7 @@ mod text;
 mod words;
 mod write;
 
+pub use ending::{exit_of, line_of};
 pub use outcome::{FileId, Outcome, Status};
 pub use report::{Point, Report, Support, Verdict};
 pub use run::payoff_run;

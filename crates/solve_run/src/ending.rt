@@ -1,0 +1,107 @@
+//! How the program tells a status.
+
+ghost use Rattle.std.specs.Prelude.{◌≡◌, IfOk, string_bytes};
+ghost use Rattle.std.specs.Option.{option_map};
+ghost use Rattle.solve_run.specs.Endings.{exit_code, file_text, line_text};
+
+use crate::outcome::{FileId, Status};
+use std::alloc::{AllocError, Global};
+
+/// The line on standard error, without its line feed, where the status has one.
+pub fn line_of(alloc: Global, status: Status) -> Result<Option<String>, AllocError>
+    ensures { IfOk result (λ line. option_map string_bytes line ≡ line_text status) }
+{
+    match status {
+        Status::Settled | Status::Spent { .. } => Ok(None),
+        Status::Usage { index } => Ok(Some(format!(in alloc;
+            "payoff: word {index} is not understood"
+        )?)),
+        Status::BadInput { file, at } => {
+            let file = name_of(file);
+            Ok(Some(format!(in alloc; "payoff: {file} is not valid at byte {at}")?))
+        }
+        Status::TooLong { file } => {
+            let file = name_of(file);
+            Ok(Some(format!(in alloc; "payoff: {file} is too long")?))
+        }
+        Status::ReadFault { file } => {
+            let file = name_of(file);
+            Ok(Some(format!(in alloc; "payoff: {file} cannot be read")?))
+        }
+        Status::WriteFault { written } => {
+            Ok(Some(format!(in alloc; "payoff: output failed after {written} bytes")?))
+        }
+        Status::NoMemory => Ok(Some(String::from_str(alloc, "payoff: out of memory")?)),
+    }
+}
+
+/// The name of a file in a line.
+fn name_of(file: FileId) -> &'static str
+    ensures { result.now ≡ file_text file }
+{
+    match file {
+        FileId::First => "first file",
+    }
+}
+
+/// The exit of the program.
+pub fn exit_of(status: Status) -> u8
+    ensures { result ≡ exit_code status }
+{
+    match status {
+        Status::Settled => 0,
+        Status::Usage { .. } => 2,
+        Status::Spent { .. } => 3,
+        Status::BadInput { .. } => 4,
+        Status::TooLong { .. } => 5,
+        Status::ReadFault { .. } => 6,
+        Status::WriteFault { .. } => 7,
+        Status::NoMemory => 8,
+    }
+}
+
+#[cfg(test)]
+mod tests {
+    use super::*;
+    use std::test::Fail;
+
+    #[test]
+    fn lines_and_exits(rt: HostRuntime) -> Result<(), Fail> {
+        let file = FileId::First;
+        for (status, line, exit) in [
+            (Status::Settled, None, 0),
+            (
+                Status::Usage { index: 2 },
+                Some("payoff: word 2 is not understood"),
+                2,
+            ),
+            (Status::Spent { sweeps: 3, row: 1 }, None, 3),
+            (
+                Status::BadInput { file, at: 29 },
+                Some("payoff: first file is not valid at byte 29"),
+                4,
+            ),
+            (
+                Status::TooLong { file },
+                Some("payoff: first file is too long"),
+                5,
+            ),
+            (
+                Status::ReadFault { file },
+                Some("payoff: first file cannot be read"),
+                6,
+            ),
+            (
+                Status::WriteFault { written: 7 },
+                Some("payoff: output failed after 7 bytes"),
+                7,
+            ),
+            (Status::NoMemory, Some("payoff: out of memory"), 8),
+        ] {
+            let found = line_of(rt.alloc(), status)?;
+            assert_eq!(rt; found.as_ref().map(|text| text.as_str()), line);
+            assert_eq!(rt; exit_of(status), exit);
+        }
+        Ok(())
+    }
+}
