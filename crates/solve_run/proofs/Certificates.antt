@@ -18,7 +18,7 @@ use Rattle.level_table.specs.Iterates.{number_of}
 use Rattle.level_table.specs.Operator.{Admissible}
 use Rattle.level_table.specs.Notes.{IsCertificate, IsItem, Keeps, coefficient, multiplier, levels_of}
 use Rattle.solve_run.specs.Axes.{KeepsAxis}
-use Rattle.solve_run.specs.Reasons.{IsGainAbove, DetersFrom, KeepsHighest}
+use Rattle.solve_run.specs.Reasons.{KeepsHighest}
 use Rattle.solve_run.proofs.AxisSums.{plus_is, minus_is, part-negative, part-unit_same, part-unit_other}
 use Rattle.solve_run.proofs.Intervals.{same_number}
 use Rattle.solve_run.proofs.Boxes.{HasAxes, one_times, half_plane, axis_of}
@@ -71,22 +71,21 @@ box_certificate p t s a i h w ok player plus minus below = record {
 }
 
 -- a deviation asks for more than the levels leave
-pub gain_certificate : (p : Problem) (t : Levels) (s a i b : ℕ) (h : ℤ) (item : Item) → HasAxes p → i < p.game.players
-    → t (successor p.game s a) (plus_axis i) ≡ At h → IsGainAbove p t s a i b h item
-    → IsCertificate p (levels_of t) s a (items.Level (plus_axis i) h (pos 1) ∷ item ∷ [])
-gain_certificate p t s a i b h item ok player plus above =
-    subst (λ it. IsCertificate p (levels_of t) s a (items.Level (plus_axis i) h (pos 1) ∷ it ∷ [])) (sym above.item_is) (record {
-      rows = pair_rows p (levels_of t) s a (items.Level (plus_axis i) h (pos 1)) (items.Gain i b above.level (pos 1)) (omega (arith, ok.axes), plus) (above.deviation, above.kept);
-      nonnegative = pair_all (items.Level (plus_axis i) h (pos 1)) (items.Gain i b above.level (pos 1)) (omega (arith, ints)) (omega (arith, ints));
-      cancel = λ j within. opposites_cancel _ _ (gain_part p i b j above.level ok player);
-      negative = sum_negative h (above.level -ℤ gain p s a i b) (gap_negative h above.level (gain p s a i b) above.above);
-    })
+pub gain_certificate : (p : Problem) (t : Levels) (s a i b : ℕ) (h x : ℤ) → HasAxes p → i < p.game.players
+    → t (successor p.game s a) (plus_axis i) ≡ At h → IsDeviation p.game s a i b → t (reached p.game s a i b) (minus_axis i) ≡ At x → h <ℤ (gain p s a i b -ℤ x)
+    → IsCertificate p (levels_of t) s a (items.Level (plus_axis i) h (pos 1) ∷ items.Gain i b x (pos 1) ∷ [])
+gain_certificate p t s a i b h x ok player plus deviation kept above = record {
+  rows = pair_rows p (levels_of t) s a (items.Level (plus_axis i) h (pos 1)) (items.Gain i b x (pos 1)) (omega (arith, ok.axes), plus) (deviation, kept);
+  nonnegative = pair_all (items.Level (plus_axis i) h (pos 1)) (items.Gain i b x (pos 1)) (omega (arith, ints)) (omega (arith, ints));
+  cancel = λ j within. opposites_cancel _ _ (gain_part p i b j x ok player);
+  negative = sum_negative h (x -ℤ gain p s a i b) (gap_negative h x (gain p s a i b) above);
+}
 
 -- ---- a vector that meets all rows
 -- where neither two such rows stand, the greatest part is one that the levels admit
 pub highest_kept : (p : Problem) (t : Levels) (s a i : ℕ) (h w : ℤ)
     → t (successor p.game s a) (plus_axis i) ≡ At h → t (successor p.game s a) (minus_axis i) ≡ At w → pos 0 ≤ℤ (h +ℤ w)
-    → ((b : ℕ) → DetersFrom p t s a i h b) → KeepsHighest p t s a i
+    → ((b : ℕ) (x : ℤ) → IsDeviation p.game s a i b → t (reached p.game s a i b) (minus_axis i) ≡ At x → (gain p s a i b -ℤ x) ≤ℤ h) → KeepsHighest p t s a i
 highest_kept p t s a i h w plus minus order deters x e =
     subst (λ z. KeepsAxis p t s a i z (pos 1)) (same_number h x (sym plus ∙ e)) (record {
       above = λ y f. subst (λ z. h ≤ℤ z) (sym (one_times y)) (subst (λ z. h ≤ℤ z) (same_number h y (sym plus ∙ f)) (omega (arith, ints)));
@@ -126,6 +125,3 @@ highest_admitted p t s a ok next reach each =
       half_planes = λ k x within e. half_plane p t s a k x (record { numerators = highest_parts p t s a; denominator = pos 1 }) ok keeps within e (axis_of k);
       incentives = λ i b x d e. (keeps i d.player).incentives b x d e;
     }
-
-pub not_below : (z : ℤ) → (z <ℤ pos 0 → ⊥) → pos 0 ≤ℤ z
-not_below z h = grind (arith, ints)

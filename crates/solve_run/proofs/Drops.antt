@@ -78,10 +78,10 @@ pub not_supported : (p : Problem) (t : Table) (slack row : ℕ) (level : ℤ) (r
 not_supported p t slack row level reached run (below, is, so_far, none, what) supported =
     none (supported.supports (state_of p row) (direction_of p row) level (row_known p t row run below) (row_here p t row run ∙ is))
 
-pub one_more_sweep : (p : Problem) (slack r : ℕ) (old new : Table) → IsAfterSweeps p slack r old → (IsSupported p (levels_in old) slack → ⊥) → IsSwept p old new → IsAfterSweeps p slack (r + 1) new
-one_more_sweep p slack r old new before none swept =
+pub one_more_sweep : (p : Problem) (slack r : ℕ) (old new : Table) (before after : List Note) → IsAfterSweeps p slack r old before → (IsSupported p (levels_in old) slack → ⊥) → IsSwept p old before new after → IsAfterSweeps p slack (r + 1) new after
+one_more_sweep p slack r old new before after so_far none swept =
     let next : suc r ≡ r + 1 = omega arith in
-    subst (λ (n : ℕ). IsAfterSweeps p slack n new) next (old, before, none, swept)
+    subst (λ (n : ℕ). IsAfterSweeps p slack n new after) next (old, before, so_far, none, swept)
 
 -- ---- the drop
 -- a run may begin with the opening table
@@ -100,9 +100,9 @@ nothing_dropped p t ok run =
     (drop_grows p (opening_table p) (opening_table p) (levels_in t) ok (range_is_floor p (opening_table p) (opening_is_start p ok).between) run.below)
 
 -- a sweep over a table that isn't supported
-pub one_more_dropped : (p : Problem) (old new : Table) (slack sweeps row : ℕ) (level : ℤ) (reached : Option Ratio) → IsProblem p → 1 ≤ slack → IsRunTable p old → IsVerdict p old slack (Unsupported row level reached) → IsSwept p old new
+pub one_more_dropped : (p : Problem) (old new : Table) (noted after : List Note) (slack sweeps row : ℕ) (level : ℤ) (reached : Option Ratio) → IsProblem p → 1 ≤ slack → IsRunTable p old → IsVerdict p old slack (Unsupported row level reached) → IsSwept p old noted new after
     → pos sweeps ≤ℤ drop_of p (opening_table p) (levels_in old) → pos (sweeps + 1) ≤ℤ drop_of p (opening_table p) (levels_in new)
-one_more_dropped p old new slack sweeps row level reached ok some run (below, is, so_far, none, what) swept before =
+one_more_dropped p old new noted after slack sweeps row level reached ok some run (below, is, so_far, none, what) swept before =
     let s : ℕ = state_of p row in
     let k : ℕ = direction_of p row in
     let here : IsRow p s k = row_known p old row run below in

@@ -5,6 +5,7 @@ pub mod Completeness
 pub mod Counts
 pub mod Drops
 pub mod Farthest
+pub mod Floors
 pub mod FractionLemmas
 pub mod Intervals
 pub mod Naming

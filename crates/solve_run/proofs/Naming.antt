@@ -135,7 +135,7 @@ reason_from p t notes s a (reasons.Deviation i b u) ok even h state profile (nex
         (λ (lt : j < i). first.players_before j lt d dev.strategy dev)
         (λ (here : (j ≡ i) × (d < b)). subst (λ (m : ℕ). IsDeviation p.game s a m d → HasNumbers (direction_count p) t (reached p.game s a m d)) (sym here.0) (first.first.before d here.1) dev)
         earlier
-reason_from p t notes s a (reasons.Farkas list) ok even h state profile (next, all, certificate) = (
+reason_from p t notes s a (reasons.Farkas list) ok even h state profile (next, all, certificate, rows) = (
   known_not_named p t notes (successor p.game s a) ok h (next_state p.game s a ok.game state profile) next,
   λ j d dev. known_not_named p t notes (reached p.game s a j d) ok h (reached_state p.game s a j d ok.game state profile dev) (all j dev.player d dev.strategy dev),
   certificate,

@@ -1,5 +1,5 @@
 -- what lowering a row and clearing a state leave of a run's table
-use Rattle.std.proofs.Common.{◌≡◌, ◌≢◌, ◌⊎◌, inl, inr, ⊎_elim, ℕ, ◌+◌, ◌*◌, ◌^◌, ◌<◌, ◌≤◌, length, refl, sym, ap, ◌∙◌, subst, arith, ℤ, pos, ◌-ℤ◌, ◌≤ℤ◌}
+use Rattle.std.proofs.Common.{◌≡◌, ◌≢◌, ◌⊎◌, inl, inr, ⊎_elim, ℕ, suc, List, ◌+◌, ◌*◌, ◌^◌, ◌<◌, ◌≤◌, length, refl, sym, ap, ◌∙◌, subst, arith, ℤ, pos, ◌-ℤ◌, ◌≤ℤ◌}
 use Rattle.std.specs.Prelude.{slice_set, neg_ℤ}
 use Rattle.std.specs.Int.{int_min}
 use Rattle.std.specs.Int.RustNames.{unsigned_abs}
@@ -13,6 +13,7 @@ use Rattle.direction_set.specs.DirectionTable.{opposite_of}
 use Rattle.game_model.specs.Game.{states, counts, profile_count}
 use Rattle.level_table.specs.declared.level.Level.{Level}
 use Rattle.level_table.specs.declared.level.Level.TheVariants.{Empty, At}
+use Rattle.level_table.specs.declared.reason.Note.{Note}
 use Rattle.level_table.specs.Problem.{Problem, direction_count, opening_level}
 use Rattle.level_table.specs.Levels.{Levels, Table, IsRow, IsBelow, IsNumber, IsSmall, AtMost, levels_in, level_at, opening_table}
 use Rattle.level_table.specs.Tables.{IsWhole}
@@ -25,7 +26,7 @@ use Rattle.bound_laws.proofs.Levels.{level_at_most_trans, level_at_most_self, at
 use Rattle.bound_laws.proofs.Opening.{row_level_is_between}
 use Rattle.bound_laws.proofs.Operator.{admissible_grows, row_levels_grow, supported_at_most_row_level}
 use Rattle.solve_run.specs.Axes.{IsSmallTable, HasAdmissible}
-use Rattle.solve_run.specs.Sweeps.{IsRunTable, IsLowered, IsPassed, IsStep, IsSwept, StaysNumber}
+use Rattle.solve_run.specs.Sweeps.{AreCleared, IsGoneThrough, IsRunTable, IsLowered, IsPassed, IsStep, IsSwept, StaysNumber}
 
 -- ---- levels
 pub empty_from_at_most : (l : Level) → AtMost l Empty → l ≡ Empty
@@ -338,6 +339,13 @@ cleared_more p entry mid new i problem known under lower before here s k below d
     subst (λ (j : ℕ). new j k ≡ Empty) e (here k dir (dead_below p entry mid i k problem known under (subst (λ (j : ℕ). IsRowLevel p entry j k Empty) (sym e) dead))))
     (cases_lt s i)
 
+-- one state more was gone through
+pub cleared_next : (p : Problem) (s : ℕ) (entry : Levels) (before : List Note) (mid : Levels) (noted : List Note) (new : Levels) (after : List Note)
+    → AreCleared p s entry before mid noted → IsGoneThrough p s mid noted new after → AreCleared p (s + 1) entry before new after
+cleared_next p s entry before mid noted new after so_far here =
+    let next : suc s ≡ s + 1 = omega arith in
+    subst (λ n. AreCleared p n entry before new after) next (mid, noted, so_far, here)
+
 pub passed_more : (p : Problem) (entry t : Levels) (i n : ℕ) → direction_count p ≤ n
     → ((s k : ℕ) → s < i → k < direction_count p → IsPassed p entry t s k) → ((k : ℕ) → k < n → IsPassed p entry t i k)
     → (s k : ℕ) → s < i + 1 → k < direction_count p → IsPassed p entry t s k
@@ -347,12 +355,18 @@ passed_more p entry t i n all before here s k below dir =
     (λ (ge : i ≤ s). let e : i ≡ s = omega arith in subst (λ (j : ℕ). IsPassed p entry t j k) e (here k (omega arith)))
     (cases_lt s i)
 
-pub swept : (p : Problem) (t u v : Table) → IsBelow p (levels_in u) (levels_in t) → ((above : Levels) → IsBelow p (levels_in t) above → (s k : ℕ) → s < states p.game → k < direction_count p → IsPassed p above (levels_in u) s k)
-    → IsStep p u v → ((s k : ℕ) → s < states p.game → k < direction_count p → IsRowLevel p (levels_in u) s k Empty → levels_in v s k ≡ Empty) → IsSwept p t v
-swept p t u v below passed step cleared = record {
-  step = step_then p t u v below step;
+pub swept : (p : Problem) (t u v : Table) (before after : List Note) → IsStep p t u → StaysNumber p (levels_in t) (levels_in u)
+    → ((above : Levels) → IsBelow p (levels_in t) above → (s k : ℕ) → s < states p.game → k < direction_count p → IsPassed p above (levels_in u) s k)
+    → IsStep p u v → AreCleared p (states p.game) (levels_in u) before (levels_in v) after
+    → ((s k : ℕ) → s < states p.game → k < direction_count p → IsRowLevel p (levels_in u) s k Empty → levels_in v s k ≡ Empty) → IsSwept p t before v after
+swept p t u v before after lowering numbers passed step clearing cleared = record {
+  step = step_then p t u v lowering.below step;
   passed = λ above s k l under row level. ⊎_elim
       (λ (h : AtMost (levels_in u s k) l). level_at_most_trans _ _ _ (step.below s k row) h)
       (λ (dead : IsRowLevel p (levels_in u) s k Empty). subst (λ (m : Level). AtMost m l) (sym (cleared s k row.state row.direction dead)) tt)
       (passed above under s k row.state row.direction l level);
+  lowered = u;
+  lowering = lowering;
+  numbers = numbers;
+  clearing = clearing;
 }

@@ -1,5 +1,5 @@
 -- What a report says of the game that was solved.
-use Rattle.std.specs.Prelude.{◌≡◌, ◌↔◌, ℕ, zero, suc, ◌*◌, ◌/◌, ◌<◌, ◌≤◌, List, length, slice_index, pos, ◌+ℤ◌, ◌*ℤ◌, ◌≤ℤ◌}
+use Rattle.std.specs.Prelude.{◌≡◌, ◌↔◌, ℕ, zero, suc, ◌*◌, ◌/◌, ◌<◌, ◌≤◌, List, [], length, slice_index, pos, ◌+ℤ◌, ◌*ℤ◌, ◌≤ℤ◌}
 use Rattle.game_model.specs.Game.{states, unit_of}
 use Rattle.level_table.specs.declared.level.Level.TheVariants.{Empty}
 use Rattle.level_table.specs.declared.reason.Note.{Note}
@@ -31,17 +31,18 @@ abbrev pub IsLastSweep : ℕ → ℕ → Verdict → Type 0
 IsLastSweep most sweeps (Supported supports) = sweeps ≤ most
 IsLastSweep most sweeps (Unsupported row level reached) = sweeps ≡ most
 
--- A run of so many sweeps from the opening: none of the tables before this one is supported within the slack, and each sweep made the next of the one before.
-abbrev pub IsAfterSweeps : Problem → ℕ → ℕ → Table → Type 0
-IsAfterSweeps p slack zero t = (s k : ℕ) → IsRow p s k → levels_in t s k ≡ opening_table p s k
-IsAfterSweeps p slack (suc r) t = (u : Table) × IsAfterSweeps p slack r u × (IsSupported p (levels_in u) slack → ⊥) × IsSwept p u t
+-- A run of so many sweeps from the opening: none of the tables before this one is supported within the slack, and each sweep made the next of the one before, with its notes.
+abbrev pub IsAfterSweeps : Problem → ℕ → ℕ → Table → List Note → Type 0
+IsAfterSweeps p slack zero t notes = ((s k : ℕ) → IsRow p s k → levels_in t s k ≡ opening_table p s k) × (notes ≡ [])
+IsAfterSweeps p slack (suc r) t notes =
+    (u : Table) × (before : List Note) × IsAfterSweeps p slack r u before × (IsSupported p (levels_in u) slack → ⊥) × IsSwept p u before t notes
 
 -- Where a run of at most so many sweeps ends: a table that bounds, and what the settling test says of it. The table is at most the iterate after as many steps, and has dropped by at least one for each sweep.
 pub record IsEnd (p : Problem) (slack most : ℕ) (t : Table) (notes : List Note) (sweeps : ℕ) (verdict : Verdict) : Type 0 where
   pub run : IsRunTable p t
   pub noted : HasNotes p (levels_in t) notes
   pub is_verdict : IsVerdict p t slack verdict
-  pub after : IsAfterSweeps p slack sweeps t
+  pub after : IsAfterSweeps p slack sweeps t notes
   pub last : IsLastSweep most sweeps verdict
   pub has_iterate : (t : Levels) × IsIterate p (opening_table p) sweeps t
   pub iterate : IsBelowIterate p (opening_table p) sweeps (levels_in t)

@@ -1,19 +1,21 @@
 -- What a run keeps of its table, and what one sweep does.
-use Rattle.std.specs.Prelude.{◌≡◌, ◌⊎◌, ℕ, zero, suc, ◌/◌, ◌%◌, ◌<◌, ◌≤◌, ◌^◌, ◌++◌, List, [], length, Option, Some, None, ℤ, pos, ◌-ℤ◌, ◌*ℤ◌, ◌≤ℤ◌, ◌<ℤ◌}
+use Rattle.std.specs.Prelude.{◌≡◌, ◌≢◌, ◌⊎◌, ◌∷◌, ℕ, zero, suc, ◌/◌, ◌%◌, ◌<◌, ◌≤◌, ◌^◌, ◌++◌, List, [], length, Option, Some, None, ℤ, pos, ◌-ℤ◌, ◌*ℤ◌, ◌≤ℤ◌, ◌<ℤ◌}
 use Rattle.std.specs.Int.{int_min}
 use Rattle.std.specs.Option.{option_to_list}
 use Rattle.std.specs.Int.RustNames.{unsigned_abs}
 use Rattle.pay_frac.specs.Ratio.{Ratio, IsLowest, Equals}
-use Rattle.game_model.specs.Game.{counts, profile_count}
+use Rattle.game_model.specs.Game.{states, counts, profile_count}
 use Rattle.level_table.specs.declared.level.Level.{Level}
 use Rattle.level_table.specs.declared.level.Level.TheVariants.{Empty, At}
+use Rattle.level_table.specs.declared.reason.Note.{Note}
 use Rattle.level_table.specs.Problem.{Problem, direction_count}
 use Rattle.level_table.specs.Levels.{Levels, Table, IsNumber, IsRow, IsBelow, AtMost, levels_in, level_at, opening_table}
 use Rattle.level_table.specs.Operator.{Admissible, Fractions, IsRowLevel, HasValueAbove, value, value_unit}
 use Rattle.level_table.specs.Supported.{IsEven, IsSupported}
 use Rattle.bound_laws.specs.Falls.{PassesRowLevels}
 use Rattle.bound_laws.specs.Laws.{HasRange, KeepsSupported}
-use Rattle.solve_run.specs.Axes.{HasSmallParts, IsSmallTable, point_of}
+use Rattle.solve_run.specs.Axes.{HasAdmissible, HasSmallParts, IsSmallTable, point_of}
+use Rattle.solve_run.specs.Reasons.{IsNoteOver}
 use Rattle.solve_run.specs.declared.report.Support.{Support}
 use Rattle.solve_run.specs.declared.settle.RowVerdict.{RowVerdict}
 use Rattle.solve_run.specs.declared.settle.RowVerdict.TheVariants as verdicts
@@ -47,10 +49,44 @@ pub record IsStep (p : Problem) (old new : Table) : Type 0 where
   pub run : IsRunTable p new
   pub below : IsBelow p (levels_in new) (levels_in old)
 
--- what a sweep leaves
-pub record IsSwept (p : Problem) (old new : Table) : Type 0 where
+-- the same levels
+abbrev pub AreSame : Problem → Levels → Levels → Type 0
+AreSame p t u = (s k : ℕ) → IsRow p s k → u s k ≡ t s k
+
+-- A state that is Empty, or in which something is admissible, stays as it is.
+pub record StaysUncleared (p : Problem) (s : ℕ) (t : Levels) (before : List Note) (u : Levels) (after : List Note) : Type 0 where
+  pub why : (t s 0 ≡ Empty) ⊎ HasAdmissible p t s
+  pub levels : AreSame p t u
+  pub notes : after ≡ before
+
+-- Another one becomes Empty, and gets its note over the levels that stood before.
+pub record IsEmptied (p : Problem) (s : ℕ) (t : Levels) (before : List Note) (u : Levels) (after : List Note) : Type 0 where
+  pub number : t s 0 ≡ Empty → ⊥
+  pub dead : HasAdmissible p t s → ⊥
+  pub here : (k : ℕ) → k < direction_count p → u s k ≡ Empty
+  pub others : (r k : ℕ) → IsRow p r k → r ≢ s → u r k ≡ t r k
+  pub note : Note
+  pub noted : IsNoteOver p t s note
+  pub notes : after ≡ before ++ note ∷ []
+
+abbrev pub IsGoneThrough : Problem → ℕ → Levels → List Note → Levels → List Note → Type 0
+IsGoneThrough p s t before u after = StaysUncleared p s t before u after ⊎ IsEmptied p s t before u after
+
+-- The states below n were gone through in order, from the levels t and the notes before to the levels u and the notes after.
+abbrev pub AreCleared : Problem → ℕ → Levels → List Note → Levels → List Note → Type 0
+AreCleared p zero t before u after = AreSame p t u × (after ≡ before)
+AreCleared p (suc s) t before u after =
+    (v : Levels) × (mid : List Note) × AreCleared p s t before v mid × IsGoneThrough p s v mid u after
+
+-- What a sweep makes of a table and its notes: each row comes down to at most its row level, and then each state is cleared in which nothing is admissible.
+pub record IsSwept (p : Problem) (old : Table) (before : List Note) (new : Table) (after : List Note) : Type 0 where
   pub step : IsStep p old new
   pub passed : PassesRowLevels p (levels_in old) (levels_in new)
+  -- the table before states are cleared
+  pub lowered : Table
+  pub lowering : IsStep p old lowered
+  pub numbers : StaysNumber p (levels_in old) (levels_in lowered)
+  pub clearing : AreCleared p (states p.game) (levels_in lowered) before (levels_in new) after
 
 -- The vector is admissible after the profile, no admissible value of the state is greater than its own, and each earlier profile's are less.
 pub record IsFirstLargest (p : Problem) (t : Levels) (s k a : ℕ) (y : Fractions) : Type 0 where

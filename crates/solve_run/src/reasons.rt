@@ -1,6 +1,6 @@
 //! Why nothing is admissible after a profile, in the directions of the axes.
 
-ghost use Rattle.std.specs.Prelude.{◌≡◌, ℕ, ◌*◌, ◌<◌, ◌≤◌, pos, ◌+ℤ◌, ◌<ℤ◌, ◌↔◌, IsTrue, length, slice_index, IfOk, IfSome, IfNone, [], ◌∷◌};
+ghost use Rattle.std.specs.Prelude.{◌≡◌, ℕ, ◌*◌, ◌^◌, ◌<◌, ◌≤◌, pos, ◌<ℤ◌, ◌≤ℤ◌, All, length, slice_index, IfOk, IfSome, IfNone, [], ◌∷◌};
 ghost use Rattle.std.specs.Int.RustNames.{unsigned_abs};
 ghost use Rattle.game_model.specs.Game.{IsGame, states, counts, profile_count, successor, reached, IsDeviation};
 ghost use Rattle.level_table.specs.declared.level.Level.TheVariants.{At};
@@ -11,7 +11,7 @@ ghost use Rattle.level_table.specs.Tables.{IsWhole, problem_of};
 ghost use Rattle.level_table.specs.Notes.{IsCertificate, levels_of};
 ghost use Rattle.level_table.specs.Operator.{Fractions, Admissible};
 ghost use Rattle.solve_run.specs.Axes.{IsAxisProblem, IsSmallTable, HasAdmissible, gain_scale_of, HasNumbers, ReachesNumbers};
-ghost use Rattle.solve_run.specs.Reasons.{AllReachNumbers, IsFirstDead, IsFirstReached, IsGainAbove, HasGainAbove, DetersFrom, KeepsHighest, IsReasonOver, IsNoteOver};
+ghost use Rattle.solve_run.specs.Reasons.{AllReachNumbers, IsFirstDead, IsFirstReached, IsFloor, IsGainFloor, IsProgramRow, KeepsHighest, IsReasonOver, IsNoteOver};
 
 use crate::operator::{gain_scale, is_known, needed};
 use direction_set::Directions;
@@ -78,7 +78,8 @@ fn finite(levels: &LevelTable, state: u32, dir: u32) -> i64
     requires state { state < levels.now.states }
     requires dir { dir < levels.now.directions }
     requires number { IsNumber (levels_in levels.now state dir) }
-    ensures { levels_in levels.now state dir ≡ At result }
+    ensures value { levels_in levels.now state dir ≡ At result }
+    ensures small { unsigned_abs result ≤ 2 ^ 63 }
 {
     match levels.get(state * levels.directions() + dir) {
         Level::At(x) => x,
@@ -86,8 +87,15 @@ fn finite(levels: &LevelTable, state: u32, dir: u32) -> i64
     }
 }
 
-/// The row of player `i`'s deviation to `b`, if it asks for more than `high`.
-fn gain_above(
+/// What asks most of a player's part from below, and how much.
+#[derive(Clone, Copy)]
+struct Floor {
+    least: i128,
+    item: Item,
+}
+
+/// What player `i`'s deviation to `b` asks.
+fn gain_floor(
     game: &Game,
     dirs: &Directions,
     grid: u32,
@@ -96,34 +104,45 @@ fn gain_above(
     a: u32,
     i: u32,
     b: u32,
-    high: i64,
-) -> Option<Item>
+) -> Floor
     requires problem { IsAxisProblem game.now dirs.now grid }
     requires table { IsSmallTable (problem_of game.now dirs.now grid) levels.now }
     requires state { s < states game.now }
     requires profile { a < profile_count (counts game.now s) }
     requires deviation { IsDeviation game.now s a i b }
     requires known { HasNumbers levels.now.directions (levels_in levels.now) (reached game.now s a i b) }
-    ensures some { IfSome result (IsGainAbove (problem_of game.now dirs.now grid) (levels_in levels.now) s a i b high) }
-    ensures none { IfNone result (DetersFrom (problem_of game.now dirs.now grid) (levels_in levels.now) s a i high b) }
+    ensures { IsGainFloor (problem_of game.now dirs.now grid) (levels_in levels.now) s a i b result }
 {
-    let scale = gain_scale(game, grid, i);
-    let least = needed(game, levels, scale, s, a, i, b)?;
-    if least > i128::from(high) {
-        let state = game.next(s, game.deviation(s, a, i, b));
-        Some(Item::Gain {
-            player: i,
-            strategy: b,
-            level: finite(levels, state, 2 * i + 1),
-            times: 1,
-        })
-    } else {
-        None
+    match needed(game, levels, gain_scale(game, grid, i), s, a, i, b) {
+        Some(least) => {
+            let state = game.next(s, game.deviation(s, a, i, b));
+            let item = Item::Gain {
+                player: i,
+                strategy: b,
+                level: finite(levels, state, 2 * i + 1),
+                times: 1,
+            };
+            Floor { least, item }
+        }
+        None => unreachable!(),
     }
 }
 
-/// The first row of a deviation of player `i` that asks for more than `high`.
-fn any_gain_above(
+/// The one that asks for more, and the first where both ask for the same.
+fn higher(first: Floor, second: Floor) -> Floor
+    ensures more { first.least <ℤ second.least → result ≡ second }
+    ensures no_more { second.least ≤ℤ first.least → result ≡ first }
+{
+    if first.least < second.least {
+        second
+    } else {
+        first
+    }
+}
+
+/// What asks most of player `i`'s part: the level of the next state, or else the first strategy of those
+/// that ask most.
+fn floor_of(
     game: &Game,
     dirs: &Directions,
     grid: u32,
@@ -131,33 +150,32 @@ fn any_gain_above(
     s: u32,
     a: u32,
     i: u32,
-    high: i64,
-) -> Option<Item>
+) -> Floor
     requires problem { IsAxisProblem game.now dirs.now grid }
     requires table { IsSmallTable (problem_of game.now dirs.now grid) levels.now }
     requires state { s < states game.now }
     requires profile { a < profile_count (counts game.now s) }
     requires player { i < game.now.players }
-    requires known { ReachesNumbers game.now levels.now.directions (levels_in levels.now) s a i (slice_index (counts game.now s) i) }
-    ensures some { IfSome result (HasGainAbove (problem_of game.now dirs.now grid) (levels_in levels.now) s a i high) }
-    ensures none { IfNone result ((b : ℕ) → DetersFrom (problem_of game.now dirs.now grid) (levels_in levels.now) s a i high b) }
+    requires known { HasNumbers levels.now.directions (levels_in levels.now) (successor game.now s a) }
+    requires reached { ReachesNumbers game.now levels.now.directions (levels_in levels.now) s a i (slice_index (counts game.now s) i) }
+    ensures { IsFloor (problem_of game.now dirs.now grid) (levels_in levels.now) s a i (slice_index (counts game.now s) i) result }
 {
+    let worst = finite(levels, game.next(s, a), 2 * i + 1);
+    let mut floor = Floor {
+        least: -i128::from(worst),
+        item: Item::Level {
+            dir: 2 * i + 1,
+            level: worst,
+            times: 1,
+        },
+    };
     let own = game.strategy_of(s, a, i);
     for b in 0..game.strategies(s, i) {
         if b != own {
-            if let Some(item) = gain_above(game, dirs, grid, levels, s, a, i, b, high) {
-                return Some(item);
-            }
+            floor = higher(floor, gain_floor(game, dirs, grid, levels, s, a, i, b));
         }
     }
-    None
-}
-
-/// Whether no number is at most `high` and at least `-worst`.
-fn is_crossed(high: i64, worst: i64) -> bool
-    ensures { IsTrue result ↔ ((high +ℤ worst) <ℤ pos 0) }
-{
-    i128::from(high) + i128::from(worst) < 0
+    floor
 }
 
 /// Two rows of a certificate.
@@ -188,26 +206,21 @@ fn clash(
     requires known { HasNumbers levels.now.directions (levels_in levels.now) (successor game.now s a) }
     requires reached { ReachesNumbers game.now levels.now.directions (levels_in levels.now) s a i (slice_index (counts game.now s) i) }
     ensures some { IfSome result (IsCertificate (problem_of game.now dirs.now grid) (levels_of (levels_in levels.now)) s a) }
+    ensures rows { IfSome result (All (IsProgramRow (problem_of game.now dirs.now grid) (levels_in levels.now) s a)) }
     ensures none { IfNone result (KeepsHighest (problem_of game.now dirs.now grid) (levels_in levels.now) s a i) }
 {
-    let next = game.next(s, a);
-    let high = finite(levels, next, 2 * i);
-    let worst = finite(levels, next, 2 * i + 1);
-    let top = Item::Level {
-        dir: 2 * i,
-        level: high,
-        times: 1,
-    };
-    if is_crossed(high, worst) {
-        let bottom = Item::Level {
-            dir: 2 * i + 1,
-            level: worst,
+    let high = finite(levels, game.next(s, a), 2 * i);
+    let floor = floor_of(game, dirs, grid, levels, s, a, i);
+    if i128::from(high) < floor.least {
+        let top = Item::Level {
+            dir: 2 * i,
+            level: high,
             times: 1,
         };
-        return Some(pair(top, bottom));
+        Some(pair(top, floor.item))
+    } else {
+        None
     }
-    let item = any_gain_above(game, dirs, grid, levels, s, a, i, high)?;
-    Some(pair(top, item))
 }
 
 /// A certificate that nothing is admissible after profile `a`, where each level that it reads is a number.
@@ -219,7 +232,8 @@ fn farkas(game: &Game, dirs: &Directions, grid: u32, levels: &LevelTable, s: u32
     requires known { HasNumbers levels.now.directions (levels_in levels.now) (successor game.now s a) }
     requires reached { AllReachNumbers game.now levels.now.directions (levels_in levels.now) s a game.now.players }
     requires nothing { (y : Fractions) → Admissible (problem_of game.now dirs.now grid) (levels_in levels.now) s a y → ⊥ }
-    ensures { IsCertificate (problem_of game.now dirs.now grid) (levels_of (levels_in levels.now)) s a result }
+    ensures certificate { IsCertificate (problem_of game.now dirs.now grid) (levels_of (levels_in levels.now)) s a result }
+    ensures rows { All (IsProgramRow (problem_of game.now dirs.now grid) (levels_in levels.now) s a) result }
 {
     for i in 0..game.players() {
         if let Some(list) = clash(game, dirs, grid, levels, s, a, i) {

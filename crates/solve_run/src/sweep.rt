@@ -9,7 +9,7 @@ ghost use Rattle.level_table.specs.Tables.{IsWhole, problem_of};
 ghost use Rattle.level_table.specs.Operator.{IsRowLevel};
 ghost use Rattle.solve_run.specs.Axes.{IsAxisProblem};
 ghost use Rattle.solve_run.specs.Reasons.{HasNotes};
-ghost use Rattle.solve_run.specs.Sweeps.{IsRunTable, IsLowered, IsPassed, IsStep, IsSwept, StaysNumber};
+ghost use Rattle.solve_run.specs.Sweeps.{AreCleared, IsGoneThrough, IsRunTable, IsLowered, IsPassed, IsStep, IsSwept, StaysNumber};
 
 use crate::operator::{RowAnswer, is_alive, row_level};
 use crate::reasons::note_of;
@@ -31,7 +31,7 @@ pub(crate) fn sweep(
     requires problem { IsAxisProblem game.now dirs.now grid }
     requires run { IsRunTable (problem_of game.now dirs.now grid) levels.old }
     requires noted { HasNotes (problem_of game.now dirs.now grid) (levels_in levels.old) notes.old }
-    ensures swept { OnOk result (IsSwept (problem_of game.now dirs.now grid) levels.old levels.new) }
+    ensures swept { OnOk result (IsSwept (problem_of game.now dirs.now grid) levels.old notes.old levels.new notes.new) }
     ensures noted { OnOk result (HasNotes (problem_of game.now dirs.now grid) (levels_in levels.new) notes.new) }
 {
     lower_rows(game, dirs, grid, levels);
@@ -97,6 +97,7 @@ fn clear_states(
     requires run { IsRunTable (problem_of game.now dirs.now grid) levels.old }
     requires noted { HasNotes (problem_of game.now dirs.now grid) (levels_in levels.old) notes.old }
     ensures step { OnOk result (IsStep (problem_of game.now dirs.now grid) levels.old levels.new) }
+    ensures clearing { OnOk result (AreCleared (problem_of game.now dirs.now grid) (states game.now) (levels_in levels.old) notes.old (levels_in levels.new) notes.new) }
     ensures cleared { OnOk result ((s k : ℕ) → s < states game.now → k < length dirs.now.vectors → IsRowLevel (problem_of game.now dirs.now grid) (levels_in levels.old) s k Empty → levels_in levels.new s k ≡ Empty) }
     ensures noted { OnOk result (HasNotes (problem_of game.now dirs.now grid) (levels_in levels.new) notes.new) }
 {
@@ -121,6 +122,7 @@ fn clear_dead(
     requires noted { HasNotes (problem_of game.now dirs.now grid) (levels_in levels.old) notes.old }
     requires state { s < states game.now }
     ensures step { OnOk result (IsStep (problem_of game.now dirs.now grid) levels.old levels.new) }
+    ensures one { OnOk result (IsGoneThrough (problem_of game.now dirs.now grid) s (levels_in levels.old) notes.old (levels_in levels.new) notes.new) }
     ensures cleared { OnOk result ((k : ℕ) → k < length dirs.now.vectors → IsRowLevel (problem_of game.now dirs.now grid) (levels_in levels.old) s k Empty → levels_in levels.new s k ≡ Empty) }
     ensures noted { OnOk result (HasNotes (problem_of game.now dirs.now grid) (levels_in levels.new) notes.new) }
 {

@@ -1,48 +1,50 @@
 -- the greatest part that the next state leaves, against what asks for more
-use Rattle.std.proofs.Common.{◌≡◌, subst, sym, rules, pos, ◌+ℤ◌, ◌≤ℤ◌, ◌<ℤ◌, to_z, of_z, FitsSigned}
-use Rattle.std.specs.Int.{w64}
-use Rattle.std.proofs.lemmas.Bool.{iff_false}
-use Rattle.std.proofs.lemmas.Int.{to_z-of_z}
+use Rattle.std.proofs.Common.{◌≡◌, ◌∙◌, subst, sym, arith, rules, ◌≤ℤ◌, ◌<ℤ◌, to_z, of_z, FitsSigned, All}
+use Rattle.std.specs.Int.{w64, w128}
+use Rattle.std.proofs.lemmas.Int.{ints, to_z-of_z}
 use Rattle.game_model.specs.Game.{successor}
 use Rattle.level_table.specs.declared.level.Level.TheVariants.{At}
+use Rattle.level_table.specs.Iterates.{number_of}
 use Rattle.level_table.specs.Problem.{plus_axis, minus_axis}
 use Rattle.level_table.specs.Levels.{levels_in}
 use Rattle.level_table.specs.Notes.{IsCertificate, levels_of}
 use Rattle.level_table.specs.Tables.{problem_of}
-use Rattle.solve_run.proofs.Certificates.{box_certificate, gain_certificate, highest_kept, not_below}
+use Rattle.solve_run.specs.Reasons.{IsProgramRow}
+use Rattle.solve_run.proofs.Certificates.{number_at}
 use Rattle.solve_run.proofs.Counts.{axes_of}
+use Rattle.solve_run.proofs.Floors.{clash_certificate, clash_rows, no_clash}
 use Rattle.solve_run.proofs.reasons.clash.Goals as goal
 
-pub returns-then-is_crossed-clause-some : goal.returns-then-is_crossed-clause-some
-returns-then-is_crossed-clause-some c =
-    let high_fits : FitsSigned w64 c.finite-high.result = search rules in
-    let worst_fits : FitsSigned w64 c.finite-worst.result = search rules in
-    let high : to_z w64 (of_z w64 c.finite-high.result) ≡ c.finite-high.result = to_z-of_z w64 c.finite-high.result high_fits in
-    let worst : to_z w64 (of_z w64 c.finite-worst.result) ≡ c.finite-worst.result = to_z-of_z w64 c.finite-worst.result worst_fits in
-    let plus : levels_in c.args.levels.now (successor c.args.game.now c.args.s c.args.a) (plus_axis c.args.i) ≡ At c.finite-high.result = subst (λ n. levels_in c.args.levels.now n (plus_axis c.args.i) ≡ At c.finite-high.result) c.next-next.ensures c.finite-high.ensures in
-    let minus : levels_in c.args.levels.now (successor c.args.game.now c.args.s c.args.a) (minus_axis c.args.i) ≡ At c.finite-worst.result = subst (λ n. levels_in c.args.levels.now n (minus_axis c.args.i) ≡ At c.finite-worst.result) c.next-next.ensures c.finite-worst.ensures in
-    let below : (c.finite-high.result +ℤ c.finite-worst.result) <ℤ pos 0 = rw (high, worst) at (c.is_crossed.ensures.0 c.if-is_crossed.true) in
-    subst (λ list. IsCertificate (problem_of c.args.game.now c.args.dirs.now c.args.grid) (levels_of (levels_in c.args.levels.now)) c.args.s c.args.a list) (sym c.pair.ensures)
-    (rw (high, worst) (box_certificate (problem_of c.args.game.now c.args.dirs.now c.args.grid) (levels_in c.args.levels.now) c.args.s c.args.a c.args.i c.finite-high.result c.finite-worst.result (axes_of c.args.game.now c.args.dirs.now c.args.grid c.requires.problem) c.requires.player plus minus below))
+pub returns-then-from-floor-clause-some : goal.returns-then-from-floor-clause-some
+returns-then-from-floor-clause-some c =
+    let p = problem_of c.args.game.now c.args.dirs.now c.args.grid in
+    let high : to_z w64 (of_z w64 c.finite-high.result) ≡ c.finite-high.result = to_z-of_z w64 c.finite-high.result (search rules) in
+    let plus : levels_in c.args.levels.now (successor c.args.game.now c.args.s c.args.a) (plus_axis c.args.i) ≡ At c.finite-high.result = subst (λ n. levels_in c.args.levels.now n (plus_axis c.args.i) ≡ At c.finite-high.result) c.next.ensures c.finite-high.ensures.value in
+    let from : c.from.result ≡ c.finite-high.result = c.from.ensures ∙ high in
+    let from_fits : FitsSigned w128 c.from.result = search rules in
+    let least_fits : FitsSigned w128 c.floor_of-floor.result.least = search rules in
+    let order : c.from.result <ℤ c.floor_of-floor.result.least = omega (arith, ints) in
+    let more : c.finite-high.result <ℤ c.floor_of-floor.result.least = subst (λ z. z <ℤ c.floor_of-floor.result.least) from order in
+    subst (IsCertificate p (levels_of (levels_in c.args.levels.now)) c.args.s c.args.a) (sym c.pair.ensures)
+    (rw high (clash_certificate p (levels_in c.args.levels.now) c.args.s c.args.a c.args.i c.finite-high.result c.floor_of-floor.result (axes_of c.args.game.now c.args.dirs.now c.args.grid c.requires.problem) c.requires.player plus c.floor_of-floor.ensures more))
 
-pub returns-in_err-item-clause-none : goal.returns-in_err-item-clause-none
-returns-in_err-item-clause-none c =
-    let high_fits : FitsSigned w64 c.finite-high.result = search rules in
-    let worst_fits : FitsSigned w64 c.finite-worst.result = search rules in
-    let high : to_z w64 (of_z w64 c.finite-high.result) ≡ c.finite-high.result = to_z-of_z w64 c.finite-high.result high_fits in
-    let worst : to_z w64 (of_z w64 c.finite-worst.result) ≡ c.finite-worst.result = to_z-of_z w64 c.finite-worst.result worst_fits in
-    let plus : levels_in c.args.levels.now (successor c.args.game.now c.args.s c.args.a) (plus_axis c.args.i) ≡ At c.finite-high.result = subst (λ n. levels_in c.args.levels.now n (plus_axis c.args.i) ≡ At c.finite-high.result) c.next-next.ensures c.finite-high.ensures in
-    let minus : levels_in c.args.levels.now (successor c.args.game.now c.args.s c.args.a) (minus_axis c.args.i) ≡ At c.finite-worst.result = subst (λ n. levels_in c.args.levels.now n (minus_axis c.args.i) ≡ At c.finite-worst.result) c.next-next.ensures c.finite-worst.ensures in
-    let crossed : (c.finite-high.result +ℤ c.finite-worst.result) <ℤ pos 0 → ⊥ = rw (high, worst) at (iff_false c.is_crossed.ensures c.if-is_crossed.false) in
-    let order : pos 0 ≤ℤ (c.finite-high.result +ℤ c.finite-worst.result) = not_below _ crossed in
-    rw c.from_residual.ensures
-    (highest_kept (problem_of c.args.game.now c.args.dirs.now c.args.grid) (levels_in c.args.levels.now) c.args.s c.args.a c.args.i c.finite-high.result c.finite-worst.result plus minus order (rw high at c.in_err-item.ensures.none))
+pub returns-then-from-floor-clause-rows : goal.returns-then-from-floor-clause-rows
+returns-then-from-floor-clause-rows c =
+    let p = problem_of c.args.game.now c.args.dirs.now c.args.grid in
+    subst (All (IsProgramRow p (levels_in c.args.levels.now) c.args.s c.args.a)) (sym c.pair.ensures)
+    (clash_rows p (levels_in c.args.levels.now) c.args.s c.args.a c.args.i (to_z w64 (of_z w64 c.finite-high.result)) c.floor_of-floor.result c.floor_of-floor.ensures)
 
-pub returns-clause-some : goal.returns-clause-some
-returns-clause-some c =
-    let high_fits : FitsSigned w64 c.finite-high.result = search rules in
-    let high : to_z w64 (of_z w64 c.finite-high.result) ≡ c.finite-high.result = to_z-of_z w64 c.finite-high.result high_fits in
-    let plus : levels_in c.args.levels.now (successor c.args.game.now c.args.s c.args.a) (plus_axis c.args.i) ≡ At c.finite-high.result = subst (λ n. levels_in c.args.levels.now n (plus_axis c.args.i) ≡ At c.finite-high.result) c.next-next.ensures c.finite-high.ensures in
-    let some = c.in_ok-item.ensures.some in
-    subst (λ list. IsCertificate (problem_of c.args.game.now c.args.dirs.now c.args.grid) (levels_of (levels_in c.args.levels.now)) c.args.s c.args.a list) (sym c.pair-2.ensures)
-    (rw high (gain_certificate (problem_of c.args.game.now c.args.dirs.now c.args.grid) (levels_in c.args.levels.now) c.args.s c.args.a c.args.i some.0 c.finite-high.result c.in_ok-item.item (axes_of c.args.game.now c.args.dirs.now c.args.grid c.requires.problem) c.requires.player plus (rw high at some.1)))
+pub returns-else-from-floor-clause-none : goal.returns-else-from-floor-clause-none
+returns-else-from-floor-clause-none c =
+    let p = problem_of c.args.game.now c.args.dirs.now c.args.grid in
+    let t = levels_in c.args.levels.now in
+    let next = successor c.args.game.now c.args.s c.args.a in
+    let high : to_z w64 (of_z w64 c.finite-high.result) ≡ c.finite-high.result = to_z-of_z w64 c.finite-high.result (search rules) in
+    let plus : levels_in c.args.levels.now (successor c.args.game.now c.args.s c.args.a) (plus_axis c.args.i) ≡ At c.finite-high.result = subst (λ n. levels_in c.args.levels.now n (plus_axis c.args.i) ≡ At c.finite-high.result) c.next.ensures c.finite-high.ensures.value in
+    let minus = number_at (t next (minus_axis c.args.i)) (c.requires.known (minus_axis c.args.i) (omega (arith, c.requires.player, c.requires.problem.axes, c.requires.table.sizes.directions_agree))) in
+    let from : c.from.result ≡ c.finite-high.result = c.from.ensures ∙ high in
+    let from_fits : FitsSigned w128 c.from.result = search rules in
+    let least_fits : FitsSigned w128 c.floor_of-floor.result.least = search rules in
+    let order : c.floor_of-floor.result.least ≤ℤ c.from.result = omega (arith, ints) in
+    let no_more : c.floor_of-floor.result.least ≤ℤ c.finite-high.result = subst (λ z. c.floor_of-floor.result.least ≤ℤ z) from order in
+    no_clash p t c.args.s c.args.a c.args.i c.finite-high.result (number_of (t next (minus_axis c.args.i))) c.floor_of-floor.result plus minus c.floor_of-floor.ensures no_more

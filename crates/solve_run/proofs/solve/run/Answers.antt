@@ -16,7 +16,7 @@ loop-sweeps-init c =
     record {
       run = c.requires.run;
       noted = subst (HasNotes p (levels_in c.args.start)) (sym c.new-notes.ensures) (notes_of_opening p (levels_in c.args.start) (record { game = c.requires.problem.game; directions = c.requires.problem.table }) c.requires.opening);
-      after = c.requires.opening;
+      after = (c.requires.opening, c.new-notes.ensures);
       has_iterate = iterate_exists p (opening_table p) 0 (record { game = c.requires.problem.game; directions = c.requires.problem.table });
       iterate = below_first_iterate p (opening_table p) (levels_in c.args.start) c.requires.run.below;
       drop = nothing_dropped p c.args.start (record { game = c.requires.problem.game; directions = c.requires.problem.table }) c.requires.run;
@@ -28,13 +28,13 @@ loop-sweeps-preserved c =
     record {
       run = c.in_ok-sweep.ensures.swept.step.run;
       noted = c.in_ok-sweep.ensures.noted;
-      after = one_more_sweep p c.args.set.now.slack c.loop-sweeps.sweeps c.loop-sweeps.levels c.sweep.new.levels c.loop-sweeps.invariant.after
+      after = one_more_sweep p c.args.set.now.slack c.loop-sweeps.sweeps c.loop-sweeps.levels c.sweep.new.levels c.loop-sweeps.notes c.sweep.new.notes c.loop-sweeps.invariant.after
           (not_supported p c.loop-sweeps.levels c.args.set.now.slack c.in_default.field-0 c.in_default.field-1 c.in_default.field-2 c.loop-sweeps.invariant.run
           (subst (IsVerdict p c.loop-sweeps.levels c.args.set.now.slack) c.in_default.is c.in_ok-verdict.ensures))
           c.in_ok-sweep.ensures.swept;
       has_iterate = iterate_exists p (opening_table p) (c.loop-sweeps.sweeps + 1) (record { game = c.requires.problem.game; directions = c.requires.problem.table });
       iterate = below_next_iterate p (opening_table p) (levels_in c.loop-sweeps.levels) (levels_in c.sweep.new.levels) c.loop-sweeps.sweeps c.loop-sweeps.invariant.iterate c.in_ok-sweep.ensures.swept.step.below c.in_ok-sweep.ensures.swept.passed;
-      drop = one_more_dropped p c.loop-sweeps.levels c.sweep.new.levels c.args.set.now.slack c.loop-sweeps.sweeps c.in_default.field-0 c.in_default.field-1 c.in_default.field-2
+      drop = one_more_dropped p c.loop-sweeps.levels c.sweep.new.levels c.loop-sweeps.notes c.sweep.new.notes c.args.set.now.slack c.loop-sweeps.sweeps c.in_default.field-0 c.in_default.field-1 c.in_default.field-2
           (record { game = c.requires.problem.game; directions = c.requires.problem.table }) c.requires.slack c.loop-sweeps.invariant.run
           (subst (IsVerdict p c.loop-sweeps.levels c.args.set.now.slack) c.in_default.is c.in_ok-verdict.ensures) c.in_ok-sweep.ensures.swept c.loop-sweeps.invariant.drop;
     }

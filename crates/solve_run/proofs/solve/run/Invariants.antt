@@ -13,7 +13,7 @@ abbrev pub invariant-loop-sweeps : goal.invariant-loop-sweeps
 invariant-loop-sweeps l = record {
   run : IsRunTable (problem_of l.game l.dirs l.set.grid) l.levels;
   noted : HasNotes (problem_of l.game l.dirs l.set.grid) (levels_in l.levels) l.notes;
-  after : IsAfterSweeps (problem_of l.game l.dirs l.set.grid) l.set.slack l.sweeps l.levels;
+  after : IsAfterSweeps (problem_of l.game l.dirs l.set.grid) l.set.slack l.sweeps l.levels l.notes;
   has_iterate : (t : Levels) × IsIterate (problem_of l.game l.dirs l.set.grid) (opening_table (problem_of l.game l.dirs l.set.grid)) l.sweeps t;
   iterate : IsBelowIterate (problem_of l.game l.dirs l.set.grid) (opening_table (problem_of l.game l.dirs l.set.grid)) l.sweeps (levels_in l.levels);
   drop : pos l.sweeps ≤ℤ drop_of (problem_of l.game l.dirs l.set.grid) (opening_table (problem_of l.game l.dirs l.set.grid)) (levels_in l.levels);

@@ -1,4 +1,4 @@
-use Rattle.std.proofs.Common.{◌<◌, sym, subst, arith}
+use Rattle.std.proofs.Common.{◌<◌, inr, sym, subst, arith}
 use Rattle.std.proofs.lemmas.Bool.{iff_false}
 use Rattle.game_model.specs.Game.{states}
 use Rattle.level_table.specs.Levels.{levels_in}
@@ -38,3 +38,16 @@ returns-clause-noted c =
     subst (HasNotes p (levels_in c.clear.new.levels)) (sym c.in_ok-push.ensures.ok)
     (notes_cleared p (levels_in c.args.levels.now) (levels_in c.clear.new.levels) c.args.notes.now c.args.s c.in_ok-note.note ok c.requires.run.even c.requires.run.kept c.requires.noted c.requires.state
     (iff_false c.is_empty.ensures c.if-is_empty.false) c.in_ok-note.ensures (c.clear.ensures.cleared 0 first) (λ r ne. c.clear.ensures.others r 0 ne first))
+
+pub returns-clause-one : goal.returns-clause-one
+returns-clause-one c =
+    let directions = c.requires.run.table.sizes.directions_agree in
+    inr (record {
+      number = iff_false c.is_empty.ensures c.if-is_empty.false;
+      dead = iff_false c.is_alive.ensures c.if-is_alive.false;
+      here = λ k dir. c.clear.ensures.cleared k (omega (arith, directions));
+      others = λ r k row ne. c.clear.ensures.others r k ne (omega (arith, directions, row.direction));
+      note = c.in_ok-note.note;
+      noted = c.in_ok-note.ensures;
+      notes = c.in_ok-push.ensures.ok;
+    })
