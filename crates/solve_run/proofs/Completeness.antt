@@ -13,7 +13,7 @@ use Rattle.solve_run.proofs.WordLemmas.{one_misfit, solve_has_no_misfit}
 
 -- with the right words, a plain file that is told and no fault, only memory can be wanting
 pub cause_is_memory : (words : List (List ℕ)) (load : Load) (status : Status) → IsCause words load status → IsSolvable words load.file → (Rose load.faults_before load.faults_after → ⊥) → IsThrough status
-cause_is_memory words load (Usage index) cause s calm = absurd (solve_has_no_misfit words s.set index s.is_solve cause)
+cause_is_memory words load (Usage index) cause s calm = absurd (solve_has_no_misfit words s.set index s.is_solve cause.0)
 cause_is_memory words load (ReadFault file) cause s calm = absurd (calm cause.1.0)
 cause_is_memory words load (TooLong file) cause s calm =
     let long : longest_file < length s.bytes = subst (λ f. IfSome f (λ bytes. longest_file < length bytes)) s.told cause.1.1 in
@@ -29,7 +29,7 @@ cause_is_memory words load (Spent sweeps row) cause s calm = tt
 
 -- a word that doesn't fit is named before all else
 pub cause_is_misfit : (words : List (List ℕ)) (load : Load) (status : Status) → IsCause words load status → (index : ℕ) → IsMisfit words index → status ≡ Usage index
-cause_is_misfit words load (Usage first) cause index m = ap Usage (one_misfit words first index cause m)
+cause_is_misfit words load (Usage first) cause index m = ap Usage (one_misfit words first index cause.0 m)
 cause_is_misfit words load (ReadFault file) cause index m = absurd (solve_has_no_misfit words cause.0.0 index cause.0.1 m)
 cause_is_misfit words load (TooLong file) cause index m = absurd (solve_has_no_misfit words cause.0.0 index cause.0.1 m)
 cause_is_misfit words load (BadInput file at) cause index m = absurd (solve_has_no_misfit words cause.0.0 index cause.0.1 m)

@@ -1,6 +1,7 @@
 pub mod AxisSums
 pub mod Boxes
 pub mod Certificates
+pub mod Choices
 pub mod Completeness
 pub mod Counts
 pub mod Drops

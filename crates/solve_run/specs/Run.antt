@@ -46,6 +46,12 @@ load_of bytes faults overlong loads name old new = record {
   loads_after = loads new;
 }
 
+-- The shelf was asked for nothing.
+pub record IsUnasked (load : Load) : Type 0 where
+  pub faults : load.faults_after ≡ load.faults_before
+  pub overlong : load.overlong_after ≡ load.overlong_before
+  pub loads : load.loads_after ≡ load.loads_before
+
 -- Some bytes that are not too long are the file of the game: those that stand under the name, where the shelf tells them.
 pub record IsFileOf (file : Option (List ℕ)) (n : Nfg) : Type 0 where
   pub bytes : List ℕ
@@ -64,9 +70,9 @@ IsFileFault load (WriteFault written) = ⊥
 IsFileFault load Settled = ⊥
 IsFileFault load (Spent sweeps row) = ⊥
 
--- why there is no report: a word doesn't fit, or else the file gives no game, or memory ran out
+-- why there is no report: a word doesn't fit, and no file was asked for; or else the file gives no game, or memory ran out
 abbrev pub IsCause : List (List ℕ) → Load → Status → Type 0
-IsCause words load (Usage index) = IsMisfit words index
+IsCause words load (Usage index) = IsMisfit words index × IsUnasked load
 IsCause words load (ReadFault file) = ((set : Settings) × IsSolve words set) × IsFileFault load (ReadFault file)
 IsCause words load (TooLong file) = ((set : Settings) × IsSolve words set) × IsFileFault load (TooLong file)
 IsCause words load (BadInput file at) = ((set : Settings) × IsSolve words set) × IsFileFault load (BadInput file at)
@@ -123,11 +129,11 @@ taking_of taken faults old new = record {
   faults_after = faults new;
 }
 
--- the sink took the first n bytes of the report's text
+-- the sink took the first n bytes of the report's text, and not all of them
 pub record TookPart (report : Report) (sink : Taking) (n : ℕ) : Type 0 where
   pub text : List ℕ
   pub is_text : IsReportText report text
-  pub within : n ≤ length text
+  pub within : n < length text
   pub taken : sink.after ≡ option_map (λ t. t ++ take n text) sink.before
 
 -- the sink took the whole text
@@ -136,9 +142,9 @@ pub record TookAll (report : Report) (sink : Taking) : Type 0 where
   pub is_text : IsReportText report text
   pub taken : sink.after ≡ option_map (λ t. t ++ text) sink.before
 
--- the sink took nothing, and there is no report
+-- the sink was offered nothing, and there is no report
 abbrev pub IsRefusal : Taking → Option Report → Type 0
-IsRefusal sink shown = (sink.after ≡ sink.before) × (shown ≡ None)
+IsRefusal sink shown = (sink.after ≡ sink.before) × (sink.faults_after ≡ sink.faults_before) × (shown ≡ None)
 
 -- what is left after the text of a report was to be written
 abbrev pub IsWritten : Report → Taking → Option Report → Status → Type 0

@@ -33,7 +33,7 @@ IsLastSweep most sweeps (Unsupported row level reached) = sweeps ≡ most
 
 -- A run of so many sweeps from the opening: none of the tables before this one is supported within the slack, and each sweep made the next of the one before, with its notes.
 abbrev pub IsAfterSweeps : Problem → ℕ → ℕ → Table → List Note → Type 0
-IsAfterSweeps p slack zero t notes = ((s k : ℕ) → IsRow p s k → levels_in t s k ≡ opening_table p s k) × (notes ≡ [])
+IsAfterSweeps p slack zero t notes = IsRunTable p t × ((s k : ℕ) → IsRow p s k → levels_in t s k ≡ opening_table p s k) × (notes ≡ [])
 IsAfterSweeps p slack (suc r) t notes =
     (u : Table) × (before : List Note) × IsAfterSweeps p slack r u before × (IsSupported p (levels_in u) slack → ⊥) × IsSwept p u before t notes
 

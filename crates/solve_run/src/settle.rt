@@ -1,12 +1,15 @@
 //! The settling test.
 
-ghost use Rattle.std.specs.Prelude.{◌≡◌, ◌-◌, ◌^◌, ◌<◌, ◌++◌, length, IfOk, OnOk, IsTrue, ◌↔◌, pos, ◌-ℤ◌, ◌<ℤ◌};
+ghost use Rattle.std.specs.Prelude.{◌≡◌, ℕ, ℤ, ◌-◌, ◌^◌, ◌<◌, ◌++◌, length, IfOk, OnOk, IsTrue, ◌↔◌, pos, ◌-ℤ◌, ◌<ℤ◌};
 ghost use Rattle.std.specs.Option.{option_to_list};
 ghost use Rattle.level_table.specs.declared.level.Level.TheVariants.{At};
-ghost use Rattle.level_table.specs.Levels.{level_at};
+ghost use Rattle.level_table.specs.Levels.{Levels, level_at};
+ghost use Rattle.level_table.specs.Operator.{Fractions};
+ghost use Rattle.level_table.specs.Problem.{Problem};
 ghost use Rattle.level_table.specs.Tables.{problem_of};
 ghost use Rattle.solve_run.specs.Axes.{IsAxisProblem};
-ghost use Rattle.solve_run.specs.Sweeps.{IsRunTable, IsVerdict, IsRowVerdict};
+ghost use Rattle.solve_run.specs.Reasons.{IsGainRow};
+ghost use Rattle.solve_run.specs.Sweeps.{IsFirstLargest, IsRunTable, IsVerdict, IsRowVerdict};
 
 use crate::operator::{RowAnswer, row_level};
 use crate::report::{Support, Verdict};
@@ -45,6 +48,12 @@ pub(crate) fn settled(
     }
     Ok(Verdict::Supported(supports))
 }
+
+/// A table leaves no choice of the profile of a support, nor of the strategy of a gain row.
+pub fn choice_laws()
+    ensures one_profile { (p : Problem) (t : Levels) (s k a b : ℕ) (y z : Fractions) → IsFirstLargest p t s k a y → IsFirstLargest p t s k b z → a ≡ b }
+    ensures one_strategy { (p : Problem) (t : Levels) (s a i b c : ℕ) (x y : ℤ) → IsGainRow p t s a i b x → IsGainRow p t s a i c y → b ≡ c }
+{}
 
 /// Adds a support, where there is one.
 fn add(supports: &mut List<Support>, support: Option<Support>) -> Result<(), AllocError>

@@ -196,5 +196,9 @@ fn output_that_fails_is_told(rt: HostRuntime) -> Result<(), Fail> {
         assert_eq!(rt; status, Status::WriteFault { written });
         assert_eq!(rt; sink.taken(), bytes);
     }
+    // The first put is offered the whole text.
+    let mut sink = MemSink::new(alloc, 1_000_000, vec![in alloc; 1u64]?)?;
+    let status = run(&rt, alloc, &AT_HALF, Some(PD.to_vec(alloc)?), &mut sink)?;
+    assert_eq!(rt; status, Status::Settled);
     Ok(())
 }

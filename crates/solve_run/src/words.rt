@@ -1,8 +1,9 @@
 //! The words of the command line.
 
 ghost use Rattle.pay_frac.specs.Ratio.{Equals, IsLowest};
+ghost use Rattle.solve_run.specs.PlainGame.{IsSmallDiscount};
 ghost use Rattle.solve_run.specs.Words.{FitsBelow, IsBudgetOf, IsBudgetWord, IsDigits, IsDiscountWord, IsGridWord, IsMisfit, IsOnlyFit, IsRatioText, IsSolve, word_at, words_in};
-ghost use Rattle.std.specs.Prelude.{IfErr, IfNone, IfSome, IfOk, OnOk, length, pos, ◌++◌, ◌+◌, ◌<◌, ◌^◌, ◌≡◌, ◌≢◌, ◌≤◌, ℕ, List, EachIndex, slice_index, [], ◌∷◌, codes};
+ghost use Rattle.std.specs.Prelude.{IfErr, IfNone, IfSome, IfOk, OnOk, length, pos, ◌++◌, ◌+◌, ◌*◌, ◌<◌, ◌^◌, ◌≡◌, ◌≢◌, ◌≤◌, ℕ, List, EachIndex, slice_index, [], ◌∷◌, codes};
 ghost use Rattle.solve_run.specs.declared.words.Settings.{Settings};
 
 use pay_frac::Frac;
@@ -68,9 +69,12 @@ pub fn settings_of(words: &[String]) -> Result<Settings, UsageFault>
     })
 }
 
-/// Words have settings or a misfit and never both, nor two misfits.
+/// Words have settings or a misfit and never both, nor two of either. The discount factor that a number is has
+/// one form in lowest terms.
 pub fn words_laws()
     ensures not_both { (words : List (List ℕ)) (set : Settings) (i : ℕ) → IsSolve words set → IsMisfit words i → ⊥ }
+    ensures one_settings { (words : List (List ℕ)) (a b : Settings) → IsSolve words a → IsSolve words b → a ≡ b }
+    ensures one_discount { (n d p q r s : ℕ) → 0 < d → IsSmallDiscount p q → IsSmallDiscount r s → p * d ≡ n * q → r * d ≡ n * s → (p ≡ r) × (q ≡ s) }
     ensures one_misfit { (words : List (List ℕ)) (i j : ℕ) → IsMisfit words i → IsMisfit words j → i ≡ j }
     ensures no_words { IsMisfit [] 0 }
     ensures command_alone { IsMisfit (codes "solve" ∷ []) 1 }

@@ -6,7 +6,7 @@ use pay_outside::{Sink, SinkFault};
 /// Puts the whole text, offering the whole rest each time. On a fault it answers how many bytes were taken.
 pub(crate) fn put_all<K: Sink>(sink: &mut K, text: &[u8]) -> Result<(), u64>
     ensures whole { OnOk result (K.taken sink.new ≡ option_map (λ t. t ++ text.now) (K.taken sink.old)) }
-    ensures within { IfErr result (λ n. n ≤ length text.now) }
+    ensures within { IfErr result (λ n. n < length text.now) }
     ensures part { IfErr result (λ n. K.taken sink.new ≡ option_map (λ t. t ++ take n text.now) (K.taken sink.old)) }
     ensures cause { IfErr result (λ _. Rose (K.faults sink.old) (K.faults sink.new)) }
 {

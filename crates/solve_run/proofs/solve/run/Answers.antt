@@ -16,7 +16,7 @@ loop-sweeps-init c =
     record {
       run = c.requires.run;
       noted = subst (HasNotes p (levels_in c.args.start)) (sym c.new-notes.ensures) (notes_of_opening p (levels_in c.args.start) (record { game = c.requires.problem.game; directions = c.requires.problem.table }) c.requires.opening);
-      after = (c.requires.opening, c.new-notes.ensures);
+      after = (c.requires.run, c.requires.opening, c.new-notes.ensures);
       has_iterate = iterate_exists p (opening_table p) 0 (record { game = c.requires.problem.game; directions = c.requires.problem.table });
       iterate = below_first_iterate p (opening_table p) (levels_in c.args.start) c.requires.run.below;
       drop = nothing_dropped p c.args.start (record { game = c.requires.problem.game; directions = c.requires.problem.table }) c.requires.run;
