@@ -2,7 +2,7 @@
 # Times the built program over the example games, a line a game. It is no test.
 top=$(CDPATH='' cd -- "$(dirname -- "$0")/.." && pwd) || exit 1
 program=$top/crates/payoff_cli/out/payoff_cli
-[ -x "$program" ] || "$top/payoff" help >/dev/null
+[ -x "$program" ] || "$top/payoff" solve >/dev/null 2>&1 # a missing word: builds, and is refused
 [ -x "$program" ] || { echo 'bench: build the program first: ./payoff solve examples/pd.nfg discount=1/2 directions=4 grid=4 workers=1 inner=0' >&2; exit 1; }
 words='discount=1/2 directions=4 grid=4 workers=1 inner=0'
 for game in "$top"/examples/*.nfg; do

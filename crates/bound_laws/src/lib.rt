@@ -1,5 +1,6 @@
 //! The laws that make outer bounds bounds (Judd, Yeltekin and Conklin 2003). Each speaks of the definitions alone,
-//! for every game, every table of directions and every start, and is the contract of a function that does nothing.
+//! for games and tables of directions within their limits and every start, and is the contract of a function that does
+//! nothing.
 //!
 //! The road from levels to payoffs goes by supported tables. The table of a self-generating correspondence is
 //! supported with slack 1, and it is at most each start whose levels bound. No row level falls below such a table. So
