@@ -53,6 +53,25 @@ fn axis_vector(place: usize, sign: i32) -> [i32; 3]
     c
 }
 
+/// Adds the two rows of each variable's box.
+fn add_box(rows: &mut ArrayVec<Row, 40>, upper: &[i128], lower: &[i128])
+    requires empty { rows.old.items ≡ [] }
+    requires few { length upper.now ≤ 3 }
+    requires lengths { length upper.now ≡ length lower.now }
+    ensures { rows.new.items ≡ box_rows 0 upper.now lower.now }
+{
+    for i in 0..upper.len() {
+        rows.push(Row {
+            c: axis_vector(i, 1),
+            h: upper[i],
+        });
+        rows.push(Row {
+            c: axis_vector(i, -1),
+            h: lower[i],
+        });
+    }
+}
+
 impl Rows {
     /// The box `y_i <= upper[i]` and `-y_i <= lower[i]`, in this order for each variable.
     ///
@@ -67,20 +86,27 @@ impl Rows {
         ensures rows { result.rows ≡ box_rows 0 upper.now lower.now }
     {
         let mut rows = ArrayVec::new();
-        for i in 0..upper.len() {
-            rows.push(Row {
-                c: axis_vector(i, 1),
-                h: upper[i],
-            });
-            rows.push(Row {
-                c: axis_vector(i, -1),
-                h: lower[i],
-            });
-        }
+        add_box(&mut rows, upper, lower);
         Rows {
             dimension: upper.len() as u32,
             rows,
         }
+    }
+
+    /// The box as [`boxed`](Rows::boxed) gives it, in place of the rows that were there. No room is made or moved, so that a
+    /// caller that solves many programs fills the same rows again.
+    pub fn reset(&mut self, upper: &[i128], lower: &[i128])
+        requires some { 1 ≤ length upper.now }
+        requires few { length upper.now ≤ 3 }
+        requires lengths { length upper.now ≡ length lower.now }
+        requires upper { All (λ h. unsigned_abs h ≤ 2 ^ 64) upper.now }
+        requires lower { All (λ h. unsigned_abs h ≤ 2 ^ 64) lower.now }
+        ensures dimension { self.new.dimension ≡ length upper.now }
+        ensures rows { self.new.rows ≡ box_rows 0 upper.now lower.now }
+    {
+        self.dimension = upper.len() as u32;
+        self.rows.clear();
+        add_box(&mut self.rows, upper, lower);
     }
 
     /// Adds a row at the end. There are at most 40.

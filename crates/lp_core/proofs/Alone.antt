@@ -11,7 +11,7 @@ use Rattle.exact_algebra.proofs.Normal.{ring}
 use Rattle.exact_algebra.proofs.Order.{at_most_from_same}
 use Rattle.lp_cert.specs.Program.{entry}
 use Rattle.lp_core.specs.declared.reduced.Line.{Line}
-use Rattle.lp_core.specs.declared.reduced.Reduced.{Reduced}
+use Rattle.lp_core.specs.Reduced.{Reduced}
 use Rattle.lp_core.specs.declared.reduced.Optimum.{Optimum}
 use Rattle.lp_core.specs.declared.pivot.Pivot.{Pivot}
 use Rattle.lp_core.specs.Lines.{along, line_at, is_seen, all_seen}
@@ -63,7 +63,7 @@ point_small p m h = record { first = part 0 (nat_eq 0 p.place) refl; second = pa
         let n : k ≢ p.place = grind (arith, nat_tests) in
         subst (λ z. unsigned_abs z ≤ m) (sym (get_or-set_other (pos 0 ∷ pos 0 ∷ pos 0 ∷ []) p.place k (p.sign *ℤ p.line.h) (pos 0) n ∙ no_part k)) (omega arith)
 
-module _ (P : Reduced) (o : List ℤ) (r : ℕ) (p : Pivot) (q : IsReduced P o) (within : r < length P.lines.items) (line : p.line ≡ line_at P.lines.items r)
+module _ (P : Reduced) (o : List ℤ) (r : ℕ) (p : Pivot) (q : IsReduced P o) (within : r < length P.lines) (line : p.line ≡ line_at P.lines r)
     (alone : (k : ℕ) → k < 3 → k ≢ p.place → slice_index_or P.live k false ≡ false) where
   some : 1 ≤ level P.live
   some = level_some P.live p.place p.inside (pivot_live P o r p q within line)
@@ -95,10 +95,10 @@ module _ (P : Reduced) (o : List ℤ) (r : ℕ) (p : Pivot) (q : IsReduced P o) 
         (ring (p.sign ∷ entry o p.place ∷ entry p.line.c p.place ∷ []) ((var 0 ⊗ var 1) ⊗ var 2) ((var 0 ⊗ var 2) ⊗ var 1) refl ∙ ap (λ z. z *ℤ entry o p.place) p.is_size)
         (λ k l n. ap (λ z. (p.sign *ℤ entry o p.place) *ℤ z) (own_other k l n) ∙ ring ((p.sign *ℤ entry o p.place) ∷ p.size ∷ []) (var 0 ⊗ lit (pos 0)) (var 1 ⊗ lit (pos 0)) refl ∙ ap (λ z. p.size *ℤ z) (sym (q.dead k l (alone k l n)).0))
 
-    pub point_best : ((l : ℕ) → l < length P.lines.items → is_seen P.live r l ≡ true → along (line_at P.lines.items l).c (point_of p) ≤ℤ ((line_at P.lines.items l).h *ℤ p.size))
+    pub point_best : ((l : ℕ) → l < length P.lines → is_seen P.live r l ≡ true → along (line_at P.lines l).c (point_of p) ≤ℤ ((line_at P.lines l).h *ℤ p.size))
         → IsBest (is_seen P.live (r + 1)) P o (record { num = point_of p; den = p.size; items = (r, p.sign *ℤ entry o p.place) ∷ [] })
     point_best each =
-        let lines = P.lines.items in
+        let lines = P.lines in
         let n = level P.live in
         let m = p.sign *ℤ entry o p.place in
         let v = along o (point_of p) in
@@ -136,18 +136,18 @@ module _ (P : Reduced) (o : List ℤ) (r : ℕ) (p : Pivot) (q : IsReduced P o) 
             swapped : (a b : ℤ) → a *ℤ b ≡ b *ℤ a
             swapped a b = ring (a ∷ b ∷ []) (var 0 ⊗ var 1) (var 1 ⊗ var 0) refl
 
-        by_row : ((l : ℕ) → l < length P.lines.items → is_seen P.live r l ≡ true → along (line_at P.lines.items l).c (point_of p) ≤ℤ ((line_at P.lines.items l).h *ℤ p.size))
-            → (l : ℕ) → l < length P.lines.items → (is_seen P.live r l ≡ true) ⊎ (l ≡ r) → along (line_at P.lines.items l).c (point_of p) ≤ℤ ((line_at P.lines.items l).h *ℤ p.size)
+        by_row : ((l : ℕ) → l < length P.lines → is_seen P.live r l ≡ true → along (line_at P.lines l).c (point_of p) ≤ℤ ((line_at P.lines l).h *ℤ p.size))
+            → (l : ℕ) → l < length P.lines → (is_seen P.live r l ≡ true) ⊎ (l ≡ r) → along (line_at P.lines l).c (point_of p) ≤ℤ ((line_at P.lines l).h *ℤ p.size)
         by_row each l h (inl e) = each l h e
         by_row each l h (inr e) =
-            subst (λ j. along (line_at P.lines.items j).c (point_of p) ≤ℤ ((line_at P.lines.items j).h *ℤ p.size)) (sym e)
+            subst (λ j. along (line_at P.lines j).c (point_of p) ≤ℤ ((line_at P.lines j).h *ℤ p.size)) (sym e)
             (subst (λ (x : Line). along x.c (point_of p) ≤ℤ (x.h *ℤ p.size)) line (at_most_from_same _ _ (on_point p)))
 
     -- ---- a row that the point breaks
-    pub crossing_empty : (l : ℕ) → l < length P.lines.items → is_seen P.live r l ≡ true → ((line_at P.lines.items l).h *ℤ p.size) <ℤ along (line_at P.lines.items l).c (point_of p)
-        → IsEmpty P ((l, p.size) ∷ (r, pos 0 -ℤ p.sign *ℤ entry (line_at P.lines.items l).c p.place) ∷ [])
+    pub crossing_empty : (l : ℕ) → l < length P.lines → is_seen P.live r l ≡ true → ((line_at P.lines l).h *ℤ p.size) <ℤ along (line_at P.lines l).c (point_of p)
+        → IsEmpty P ((l, p.size) ∷ (r, pos 0 -ℤ p.sign *ℤ entry (line_at P.lines l).c p.place) ∷ [])
     crossing_empty l inside seen misses =
-        let lines = P.lines.items in
+        let lines = P.lines in
         let n = level P.live in
         let x = line_at lines l in
         let m = pos 0 -ℤ p.sign *ℤ entry x.c p.place in

@@ -14,7 +14,7 @@ use Rattle.exact_algebra.proofs.Normal.{ring}
 use Rattle.exact_algebra.proofs.Order.{abs_product, abs_sum, abs_difference, at_most_from_same, product_at_least_zero, product_above_zero}
 use Rattle.lp_cert.specs.Program.{entry}
 use Rattle.lp_core.specs.declared.reduced.Line.{Line}
-use Rattle.lp_core.specs.declared.reduced.Reduced.{Reduced}
+use Rattle.lp_core.specs.Reduced.{Reduced}
 use Rattle.lp_core.specs.declared.reduced.Optimum.{Optimum}
 use Rattle.lp_core.specs.declared.pivot.Pivot.{Pivot}
 use Rattle.lp_core.specs.Lines.{along, line_at, line_sum, line_sides, is_seen, all_seen, IsMet, IsDual}
@@ -47,55 +47,55 @@ abs_total f m xs h = abs_total_each f m xs (recursion_from_All (λ x. unsigned_a
 
 module _ (P : Reduced) (o : List ℤ) (r : ℕ) (p : Pivot) (Q : Reduced) (rest : List ℤ) (s : IsStep P o r p Q rest) where
   -- ---- the items of the rows
-  lifted_rows : (items : List (ℕ × ℤ)) → All (λ item. item.0 < length Q.lines.items) items → All (λ item. item.0 < length P.lines.items) (lifted_items p P.lines.items P.live r items)
-  lifted_rows items h = All-map (λ (item : ℕ × ℤ). item.0 < length P.lines.items) (lifted_item p P.lines.items P.live r) items (λ k d l. source_within P o r p Q rest s (get_or items k d).0 (h k d l))
+  lifted_rows : (items : List (ℕ × ℤ)) → All (λ item. item.0 < length Q.lines) items → All (λ item. item.0 < length P.lines) (lifted_items p P.lines P.live r items)
+  lifted_rows items h = All-map (λ (item : ℕ × ℤ). item.0 < length P.lines) (lifted_item p P.lines P.live r) items (λ k d l. source_within P o r p Q rest s (get_or items k d).0 (h k d l))
 
-  lifted_seen : (items : List (ℕ × ℤ)) → All (λ item. is_seen P.live r item.0 ≡ true) (lifted_items p P.lines.items P.live r items)
-  lifted_seen items = All-map (λ (item : ℕ × ℤ). is_seen P.live r item.0 ≡ true) (lifted_item p P.lines.items P.live r) items (λ k d l. source_seen P o r p Q rest s (get_or items k d).0)
+  lifted_seen : (items : List (ℕ × ℤ)) → All (λ item. is_seen P.live r item.0 ≡ true) (lifted_items p P.lines P.live r items)
+  lifted_seen items = All-map (λ (item : ℕ × ℤ). is_seen P.live r item.0 ≡ true) (lifted_item p P.lines P.live r) items (λ k d l. source_seen P o r p Q rest s (get_or items k d).0)
 
-  lifted_not_negative : (items : List (ℕ × ℤ)) → All (λ item. pos 0 ≤ℤ item.1) items → All (λ item. pos 0 ≤ℤ item.1) (lifted_items p P.lines.items P.live r items)
-  lifted_not_negative items h = All-map (λ (item : ℕ × ℤ). pos 0 ≤ℤ item.1) (lifted_item p P.lines.items P.live r) items
-      (λ k d l. let x = line_at P.lines.items (source_of p P.live r (get_or items k d).0) in
+  lifted_not_negative : (items : List (ℕ × ℤ)) → All (λ item. pos 0 ≤ℤ item.1) items → All (λ item. pos 0 ≤ℤ item.1) (lifted_items p P.lines P.live r items)
+  lifted_not_negative items h = All-map (λ (item : ℕ × ℤ). pos 0 ≤ℤ item.1) (lifted_item p P.lines P.live r) items
+      (λ k d l. let x = line_at P.lines (source_of p P.live r (get_or items k d).0) in
       product_at_least_zero (factor_of p x) (get_or items k d).1 (at_least_zero (factor_of p x) (factor_positive p x)) (h k d l))
 
   -- ---- their sums
-  module _ (q small : List ℤ) (is : IsRest p q small) (items : List (ℕ × ℤ)) (v d w : ℤ) (wanted : w ≡ d *ℤ entry q p.place) (dual : IsDual all_seen Q.lines.items small items v d) where
+  module _ (q small : List ℤ) (is : IsRest p q small) (items : List (ℕ × ℤ)) (v d w : ℤ) (wanted : w ≡ d *ℤ entry q p.place) (dual : IsDual all_seen Q.lines small items v d) where
     pub multiplier : ℤ
-    multiplier = p.sign *ℤ (w -ℤ pivot_sum p P.lines.items P.live r items)
+    multiplier = p.sign *ℤ (w -ℤ pivot_sum p P.lines P.live r items)
 
-    lifted_sum : (k : ℕ) → k < 3 → line_sum P.lines.items k (lifted_items p P.lines.items P.live r items) ≡ (p.size *ℤ d) *ℤ entry q k -ℤ (p.sign *ℤ (w -ℤ pivot_sum p P.lines.items P.live r items)) *ℤ entry p.line.c k
+    lifted_sum : (k : ℕ) → k < 3 → line_sum P.lines k (lifted_items p P.lines P.live r items) ≡ (p.size *ℤ d) *ℤ entry q k -ℤ (p.sign *ℤ (w -ℤ pivot_sum p P.lines P.live r items)) *ℤ entry p.line.c k
     lifted_sum k l =
-        let c = pivot_sum p P.lines.items P.live r items in
-        moved_over (line_sum Q.lines.items k items) (line_sum P.lines.items k (lifted_items p P.lines.items P.live r items)) ((p.sign *ℤ c) *ℤ entry p.line.c k) (inner_sum p P.lines.items P.live r Q.lines.items s.each items dual.rows k l)
+        let c = pivot_sum p P.lines P.live r items in
+        moved_over (line_sum Q.lines k items) (line_sum P.lines k (lifted_items p P.lines P.live r items)) ((p.sign *ℤ c) *ℤ entry p.line.c k) (inner_sum p P.lines P.live r Q.lines s.each items dual.rows k l)
         ∙ ap (λ z. z +ℤ (p.sign *ℤ c) *ℤ entry p.line.c k) (dual.entries k l ∙ ap (λ z. d *ℤ z) (is k l))
         ∙ ring (d ∷ p.size ∷ entry q k ∷ p.sign ∷ entry q p.place ∷ entry p.line.c k ∷ c ∷ [])
         (var 0 ⊗ (var 1 ⊗ var 2 ⊖ (var 3 ⊗ var 4) ⊗ var 5) ⊕ (var 3 ⊗ var 6) ⊗ var 5)
         ((var 1 ⊗ var 0) ⊗ var 2 ⊖ (var 3 ⊗ (var 0 ⊗ var 4 ⊖ var 6)) ⊗ var 5) refl
         ∙ ap (λ z. (p.size *ℤ d) *ℤ entry q k -ℤ (p.sign *ℤ (z -ℤ c)) *ℤ entry p.line.c k) (sym wanted)
 
-    lifted_sides : line_sides P.lines.items (lifted_items p P.lines.items P.live r items) ≤ℤ ((v +ℤ (p.sign *ℤ w) *ℤ p.line.h) -ℤ (p.sign *ℤ (w -ℤ pivot_sum p P.lines.items P.live r items)) *ℤ p.line.h)
+    lifted_sides : line_sides P.lines (lifted_items p P.lines P.live r items) ≤ℤ ((v +ℤ (p.sign *ℤ w) *ℤ p.line.h) -ℤ (p.sign *ℤ (w -ℤ pivot_sum p P.lines P.live r items)) *ℤ p.line.h)
     lifted_sides =
-        let c = pivot_sum p P.lines.items P.live r items in
-        let e = moved_over (line_sides Q.lines.items items) (line_sides P.lines.items (lifted_items p P.lines.items P.live r items)) ((p.sign *ℤ c) *ℤ p.line.h) (inner_sides p P.lines.items P.live r Q.lines.items s.each items dual.rows) in
+        let c = pivot_sum p P.lines P.live r items in
+        let e = moved_over (line_sides Q.lines items) (line_sides P.lines (lifted_items p P.lines P.live r items)) ((p.sign *ℤ c) *ℤ p.line.h) (inner_sides p P.lines P.live r Q.lines s.each items dual.rows) in
         let f : (v +ℤ (p.sign *ℤ w) *ℤ p.line.h) -ℤ (p.sign *ℤ (w -ℤ c)) *ℤ p.line.h ≡ v +ℤ (p.sign *ℤ c) *ℤ p.line.h =
         ring (v ∷ p.sign ∷ w ∷ p.line.h ∷ c ∷ []) ((var 0 ⊕ (var 1 ⊗ var 2) ⊗ var 3) ⊖ (var 1 ⊗ (var 2 ⊖ var 4)) ⊗ var 3) (var 0 ⊕ (var 1 ⊗ var 4) ⊗ var 3) refl in
-        combine (line_sides P.lines.items (lifted_items p P.lines.items P.live r items)) (line_sides Q.lines.items items) v ((p.sign *ℤ c) *ℤ p.line.h) _ e dual.sides f
+        combine (line_sides P.lines (lifted_items p P.lines P.live r items)) (line_sides Q.lines items) v ((p.sign *ℤ c) *ℤ p.line.h) _ e dual.sides f
       where
         combine : (a b v t z : ℤ) → a ≡ b +ℤ t → b ≤ℤ v → z ≡ v +ℤ t → a ≤ℤ z
         combine a b v t z e h f = omega (arith, ints)
 
     -- the whole sums
-    module _ (seen : ℕ → Bool) (old : (l : ℕ) → is_seen P.live r l ≡ true → seen l ≡ true) (last : seen r ≡ true) (num : List ℤ) (den : ℤ) (met : IsMet (is_seen P.live r) P.lines.items num den)
+    module _ (seen : ℕ → Bool) (old : (l : ℕ) → is_seen P.live r l ≡ true → seen l ≡ true) (last : seen r ≡ true) (num : List ℤ) (den : ℤ) (met : IsMet (is_seen P.live r) P.lines num den)
         (broken : (p.line.h *ℤ den) <ℤ along p.line.c num) (best : ((v +ℤ (p.sign *ℤ w) *ℤ p.line.h) *ℤ den) ≤ℤ ((p.size *ℤ d) *ℤ along q num)) where
-      not_negative : pos 0 ≤ℤ (p.sign *ℤ (w -ℤ pivot_sum p P.lines.items P.live r items))
-      not_negative = multiplier_not_negative (is_seen P.live r) P.lines.items p.line.c q p.line.h (lifted_items p P.lines.items P.live r items) num den
-          (p.sign *ℤ (w -ℤ pivot_sum p P.lines.items P.live r items)) (v +ℤ (p.sign *ℤ w) *ℤ p.line.h) (p.size *ℤ d) met (lifted_rows items dual.rows) (lifted_seen items) (lifted_not_negative items dual.not_negative) lifted_sum lifted_sides broken best
+      not_negative : pos 0 ≤ℤ (p.sign *ℤ (w -ℤ pivot_sum p P.lines P.live r items))
+      not_negative = multiplier_not_negative (is_seen P.live r) P.lines p.line.c q p.line.h (lifted_items p P.lines P.live r items) num den
+          (p.sign *ℤ (w -ℤ pivot_sum p P.lines P.live r items)) (v +ℤ (p.sign *ℤ w) *ℤ p.line.h) (p.size *ℤ d) met (lifted_rows items dual.rows) (lifted_seen items) (lifted_not_negative items dual.not_negative) lifted_sum lifted_sides broken best
 
-      pub whole_dual : IsDual seen P.lines.items q (with_pivot p P.lines.items P.live r w items) (v +ℤ (p.sign *ℤ w) *ℤ p.line.h) (p.size *ℤ d)
+      pub whole_dual : IsDual seen P.lines q (with_pivot p P.lines P.live r w items) (v +ℤ (p.sign *ℤ w) *ℤ p.line.h) (p.size *ℤ d)
       whole_dual =
-          let j = lifted_items p P.lines.items P.live r items in
-          let m = p.sign *ℤ (w -ℤ pivot_sum p P.lines.items P.live r items) in
-          let lines = P.lines.items in
+          let j = lifted_items p P.lines P.live r items in
+          let m = p.sign *ℤ (w -ℤ pivot_sum p P.lines P.live r items) in
+          let lines = P.lines in
           record {
             rows = All-push (λ (item : ℕ × ℤ). item.0 < length lines) j (r, m) (lifted_rows items dual.rows) s.within;
             seen_rows = All-push (λ (item : ℕ × ℤ). seen item.0 ≡ true) j (r, m) (λ k e l. old (get_or j k e).0 (lifted_seen items k e l)) last;
@@ -110,27 +110,27 @@ module _ (P : Reduced) (o : List ℤ) (r : ℕ) (p : Pivot) (Q : Reduced) (rest 
           whole_sides a b t z e h = omega (arith, ints)
 
   -- ---- sizes
-  few_items : (items : List (ℕ × ℤ)) (count most more w : ℕ) (wanted : ℤ) → All (λ item. item.0 < length Q.lines.items) items → AreFew count most items → entry_most (suc (level Q.live)) * most ≤ more
-      → w + count * (most * entry_most (suc (level Q.live))) ≤ more → unsigned_abs wanted ≤ w → AreFew (suc count) more (with_pivot p P.lines.items P.live r wanted items)
+  few_items : (items : List (ℕ × ℤ)) (count most more w : ℕ) (wanted : ℤ) → All (λ item. item.0 < length Q.lines) items → AreFew count most items → entry_most (suc (level Q.live)) * most ≤ more
+      → w + count * (most * entry_most (suc (level Q.live))) ≤ more → unsigned_abs wanted ≤ w → AreFew (suc count) more (with_pivot p P.lines P.live r wanted items)
   few_items items count most more w wanted rows h a b small =
       let m = entry_most (suc (level Q.live)) in
-      let j = lifted_items p P.lines.items P.live r items in
-      let c = pivot_sum p P.lines.items P.live r items in
+      let j = lifted_items p P.lines P.live r items in
+      let c = pivot_sum p P.lines P.live r items in
       let times : All (λ (item : ℕ × ℤ). unsigned_abs item.1 ≤ more) j =
-      All-map (λ (item : ℕ × ℤ). unsigned_abs item.1 ≤ more) (lifted_item p P.lines.items P.live r) items (λ k d l.
-      let x = line_at P.lines.items (source_of p P.live r (get_or items k d).0) in
+      All-map (λ (item : ℕ × ℤ). unsigned_abs item.1 ≤ more) (lifted_item p P.lines P.live r) items (λ k d l.
+      let x = line_at P.lines (source_of p P.live r (get_or items k d).0) in
       let y = abs_product (factor_of p x) (get_or items k d).1 m most (factor_small p x m (entry_some (suc (level Q.live))) (size_small P o r p Q rest s)) (h.small k d l) in
       omega (arith, y, a)) in
       let sum : unsigned_abs c ≤ length items * (most * m) =
-      abs_total (λ (item : ℕ × ℤ). item.1 *ℤ entry (line_at P.lines.items (source_of p P.live r item.0)).c p.place) (most * m) items (λ k d l.
+      abs_total (λ (item : ℕ × ℤ). item.1 *ℤ entry (line_at P.lines (source_of p P.live r item.0)).c p.place) (most * m) items (λ k d l.
       let i = source_of p P.live r (get_or items k d).0 in
-      abs_product (get_or items k d).1 (entry (line_at P.lines.items i).c p.place) most m (h.small k d l)
-      (at_place m p.place (line_at P.lines.items i).c p.inside (line_small P o r p Q rest s i (source_within P o r p Q rest s (get_or items k d).0 (rows k d l))).entries)) in
+      abs_product (get_or items k d).1 (entry (line_at P.lines i).c p.place) most m (h.small k d l)
+      (at_place m p.place (line_at P.lines i).c p.inside (line_small P o r p Q rest s i (source_within P o r p Q rest s (get_or items k d).0 (rows k d l))).entries)) in
       let scaled : length items * (most * m) ≤ count * (most * m) = mul-le (length items) (most * m) count (most * m) h.few (omega arith) in
       let difference = abs_difference wanted c w (count * (most * m)) small (omega (arith, sum, scaled)) in
       let last = sign_times p (wanted -ℤ c) (w + count * (most * m)) difference in
       record {
-        few = omega (arith, h.few, length-append j ((r, p.sign *ℤ (wanted -ℤ c)) ∷ []), length-map items (lifted_item p P.lines.items P.live r));
+        few = omega (arith, h.few, length-append j ((r, p.sign *ℤ (wanted -ℤ c)) ∷ []), length-map items (lifted_item p P.lines P.live r));
         small = All-push (λ (item : ℕ × ℤ). unsigned_abs item.1 ≤ more) j (r, p.sign *ℤ (wanted -ℤ c)) times (omega (arith, last, b));
       }
 
@@ -163,15 +163,15 @@ module _ (P : Reduced) (o : List ℤ) (r : ℕ) (p : Pivot) (Q : Reduced) (rest 
 
   -- ---- the optimum
   pub best_back : (old inner new : Optimum) → IsBest (is_seen P.live r) P o old → (p.line.h *ℤ old.den) <ℤ along p.line.c old.num → IsBest all_seen Q rest inner
-      → IsLifted p inner.num inner.den new.num → new.den ≡ p.size *ℤ inner.den → new.items ≡ with_pivot p P.lines.items P.live r (inner.den *ℤ entry o p.place) inner.items
+      → IsLifted p inner.num inner.den new.num → new.den ≡ p.size *ℤ inner.den → new.items ≡ with_pivot p P.lines P.live r (inner.den *ℤ entry o p.place) inner.items
       → IsBest (is_seen P.live (r + 1)) P o new
   best_back old inner new b broken i lifted den items =
-      let lines = P.lines.items in
+      let lines = P.lines in
       let n = level Q.live in
       let w = inner.den *ℤ entry o p.place in
       let d = p.size *ℤ inner.den in
       let met : (l : ℕ) → l < length lines → is_seen P.live r l ≡ true → along (line_at lines l).c new.num ≤ℤ ((line_at lines l).h *ℤ d) =
-      λ l h e. row_lifted p inner.num inner.den new.num (line_at lines l) (line_at Q.lines.items l) lifted (seen_eliminated P o r p Q rest s l h e) (i.met.each l (seen_within P o r p Q rest s l h e) refl) in
+      λ l h e. row_lifted p inner.num inner.den new.num (line_at lines l) (line_at Q.lines l) lifted (seen_eliminated P o r p Q rest s l h e) (i.met.each l (seen_within P o r p Q rest s l h e) refl) in
       let positive : pos 0 <ℤ d = product_above_zero p.size inner.den p.positive i.met.positive in
       let v : along o new.num ≡ along rest inner.num +ℤ (p.sign *ℤ w) *ℤ p.line.h = value_lifted p inner.num inner.den new.num o rest lifted s.is_rest in
       let bound : (old.den *ℤ along o new.num) ≤ℤ (along o old.num *ℤ d) = dual_bounds (is_seen P.live r) lines o old.items (along o old.num) old.den new.num d b.dual (record { positive = positive; each = met }) in
@@ -200,18 +200,18 @@ module _ (P : Reduced) (o : List ℤ) (r : ℕ) (p : Pivot) (Q : Reduced) (rest 
           swapped : (a b : ℤ) → a *ℤ b ≡ b *ℤ a
           swapped a b = ring (a ∷ b ∷ []) (var 0 ⊗ var 1) (var 1 ⊗ var 0) refl
 
-      by_row : (d : ℤ) → ((l : ℕ) → l < length P.lines.items → is_seen P.live r l ≡ true → along (line_at P.lines.items l).c new.num ≤ℤ ((line_at P.lines.items l).h *ℤ (p.size *ℤ inner.den)))
-          → (k : ℕ) → k < length P.lines.items → (is_seen P.live r k ≡ true) ⊎ (k ≡ r) → along (line_at P.lines.items k).c new.num ≤ℤ ((line_at P.lines.items k).h *ℤ (p.size *ℤ inner.den))
+      by_row : (d : ℤ) → ((l : ℕ) → l < length P.lines → is_seen P.live r l ≡ true → along (line_at P.lines l).c new.num ≤ℤ ((line_at P.lines l).h *ℤ (p.size *ℤ inner.den)))
+          → (k : ℕ) → k < length P.lines → (is_seen P.live r k ≡ true) ⊎ (k ≡ r) → along (line_at P.lines k).c new.num ≤ℤ ((line_at P.lines k).h *ℤ (p.size *ℤ inner.den))
       by_row d met k h (inl e) = met k h e
       by_row d met k h (inr e) =
-          subst (λ j. along (line_at P.lines.items j).c new.num ≤ℤ ((line_at P.lines.items j).h *ℤ (p.size *ℤ inner.den))) (sym e)
+          subst (λ j. along (line_at P.lines j).c new.num ≤ℤ ((line_at P.lines j).h *ℤ (p.size *ℤ inner.den))) (sym e)
           (subst (λ (x : Line). along x.c new.num ≤ℤ (x.h *ℤ (p.size *ℤ inner.den))) s.line (at_most_from_same _ _ (on_plane p inner.num inner.den new.num lifted)))
 
   -- ---- no point
   pub empty_back : (old : Optimum) (items lifted : List (ℕ × ℤ)) → IsBest (is_seen P.live r) P o old → (p.line.h *ℤ old.den) <ℤ along p.line.c old.num → IsEmpty Q items
-      → lifted ≡ with_pivot p P.lines.items P.live r (pos 0) items → IsEmpty P lifted
+      → lifted ≡ with_pivot p P.lines P.live r (pos 0) items → IsEmpty P lifted
   empty_back old items lifted b broken i is =
-      let lines = P.lines.items in
+      let lines = P.lines in
       let n = level Q.live in
       let f = few P o r p Q rest s in
       let l = levels P o r p Q rest s in
@@ -239,7 +239,7 @@ module _ (P : Reduced) (o : List ℤ) (r : ℕ) (p : Pivot) (Q : Reduced) (rest 
       more items h = record { few = omega (arith, h.few); small = h.small }
 
 -- a row that the point meets
-pub met_more : (P : Reduced) (o : List ℤ) (r : ℕ) (b : Optimum) → IsBest (is_seen P.live r) P o b → along (line_at P.lines.items r).c b.num ≤ℤ ((line_at P.lines.items r).h *ℤ b.den) → IsBest (is_seen P.live (r + 1)) P o b
+pub met_more : (P : Reduced) (o : List ℤ) (r : ℕ) (b : Optimum) → IsBest (is_seen P.live r) P o b → along (line_at P.lines r).c b.num ≤ℤ ((line_at P.lines r).h *ℤ b.den) → IsBest (is_seen P.live (r + 1)) P o b
 met_more P o r b h m = record {
   met = record { positive = h.met.positive; each = λ l w e. by_row l w (seen_last P.live r l e) };
   dual = record {
@@ -254,15 +254,15 @@ met_more P o r b h m = record {
   few = h.few;
 }
   where
-    by_row : (l : ℕ) → l < length P.lines.items → (is_seen P.live r l ≡ true) ⊎ (l ≡ r) → along (line_at P.lines.items l).c b.num ≤ℤ ((line_at P.lines.items l).h *ℤ b.den)
+    by_row : (l : ℕ) → l < length P.lines → (is_seen P.live r l ≡ true) ⊎ (l ≡ r) → along (line_at P.lines l).c b.num ≤ℤ ((line_at P.lines l).h *ℤ b.den)
     by_row l w (inl e) = h.met.each l w e
-    by_row l w (inr e) = subst (λ j. along (line_at P.lines.items j).c b.num ≤ℤ ((line_at P.lines.items j).h *ℤ b.den)) (sym e) m
+    by_row l w (inr e) = subst (λ j. along (line_at P.lines j).c b.num ≤ℤ ((line_at P.lines j).h *ℤ b.den)) (sym e) m
 
 -- a row without variables that the point breaks
-pub only_empty : (P : Reduced) (r : ℕ) (num : List ℤ) (den : ℤ) → r < length P.lines.items → pos 0 <ℤ den → ((k : ℕ) → k < 3 → entry (line_at P.lines.items r).c k ≡ pos 0)
-    → ((line_at P.lines.items r).h *ℤ den) <ℤ along (line_at P.lines.items r).c num → IsEmpty P ((r, pos 1) ∷ [])
+pub only_empty : (P : Reduced) (r : ℕ) (num : List ℤ) (den : ℤ) → r < length P.lines → pos 0 <ℤ den → ((k : ℕ) → k < 3 → entry (line_at P.lines r).c k ≡ pos 0)
+    → ((line_at P.lines r).h *ℤ den) <ℤ along (line_at P.lines r).c num → IsEmpty P ((r, pos 1) ∷ [])
 only_empty P r num den within positive zeros broken =
-    let lines = P.lines.items in
+    let lines = P.lines in
     let x = line_at lines r in
     let n = level P.live in
     let one : (F : ℕ × ℤ → Type 0) → F (r, pos 1) → All F ((r, pos 1) ∷ []) = λ F a. All-cons F (r, pos 1) [] a (All-nil F) in

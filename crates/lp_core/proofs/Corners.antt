@@ -10,7 +10,7 @@ use Rattle.exact_algebra.specs.Poly.{var, lit, ◌⊕◌, ◌⊖◌, ◌⊗◌}
 use Rattle.exact_algebra.proofs.Normal.{ring}
 use Rattle.lp_cert.specs.Program.{entry, axis}
 use Rattle.lp_core.specs.declared.reduced.Line.{Line}
-use Rattle.lp_core.specs.declared.reduced.Reduced.{Reduced}
+use Rattle.lp_core.specs.Reduced.{Reduced}
 use Rattle.lp_core.specs.declared.corner.End.{End}
 use Rattle.lp_core.specs.Lines.{along, line_at, line_sum, line_sides, is_seen, all_seen}
 use Rattle.lp_core.specs.Corner.{IsEnd, IsUpperEnd, IsLowerEnd, upper_side, lower_side}
@@ -25,14 +25,14 @@ use Rattle.lp_core.proofs.Sums.{line_sum_push, line_sides_push}
 -- the corner of the first k variables
 pub record IsCornerTo (k : ℕ) (p : Reduced) (o num : List ℤ) (items : List (ℕ × ℤ)) : Type 0 where
   pub three : length num ≡ 3
-  pub within : (i : ℕ) → i < k → slice_index_or p.live i false ≡ true → ((pos 0 -ℤ lower_side p.lines.items i) ≤ℤ entry num i) × (entry num i ≤ℤ upper_side p.lines.items i)
+  pub within : (i : ℕ) → i < k → slice_index_or p.live i false ≡ true → ((pos 0 -ℤ lower_side p.lines i) ≤ℤ entry num i) × (entry num i ≤ℤ upper_side p.lines i)
   pub later : (i : ℕ) → k ≤ i → entry num i ≡ pos 0
-  pub rows : All (λ item. item.0 < length p.lines.items) items
+  pub rows : All (λ item. item.0 < length p.lines) items
   pub seen_rows : All (λ item. is_seen p.live 0 item.0 ≡ true) items
   pub not_negative : All (λ item. pos 0 ≤ℤ item.1) items
-  pub entries : (i : ℕ) → i < k → line_sum p.lines.items i items ≡ entry o i
-  pub no_entries : (i : ℕ) → k ≤ i → i < 3 → line_sum p.lines.items i items ≡ pos 0
-  pub sides : line_sides p.lines.items items ≡ along o num
+  pub entries : (i : ℕ) → i < k → line_sum p.lines i items ≡ entry o i
+  pub no_entries : (i : ℕ) → k ≤ i → i < 3 → line_sum p.lines i items ≡ pos 0
+  pub sides : line_sides p.lines items ≡ along o num
   pub few : length items ≤ live_below p.live k
   pub small : All (λ item. unsigned_abs item.1 ≤ dual_most (level p.live)) items
   pub num_small : (i : ℕ) → unsigned_abs (entry num i) ≤ side_most (level p.live)
@@ -59,7 +59,7 @@ no_corner p o = record {
   three = refl;
   within = λ i l. absurd (omega (arith, l));
   later = λ i l. no_part i;
-  rows = All-nil (λ (item : ℕ × ℤ). item.0 < length p.lines.items);
+  rows = All-nil (λ (item : ℕ × ℤ). item.0 < length p.lines);
   seen_rows = All-nil (λ (item : ℕ × ℤ). is_seen p.live 0 item.0 ≡ true);
   not_negative = All-nil (λ (item : ℕ × ℤ). pos 0 ≤ℤ item.1);
   entries = λ i l. absurd (omega (arith, l));
@@ -74,12 +74,12 @@ no_corner p o = record {
 pub corner_dead : (k : ℕ) (p : Reduced) (o num : List ℤ) (items : List (ℕ × ℤ)) → k < 3 → IsReduced p o → slice_index_or p.live k false ≡ false → IsCornerTo k p o num items → IsCornerTo (k + 1) p o num items
 corner_dead k p o num items l q dead h = record {
   three = h.three;
-  within = below_more (λ i. slice_index_or p.live i false ≡ true → ((pos 0 -ℤ lower_side p.lines.items i) ≤ℤ entry num i) × (entry num i ≤ℤ upper_side p.lines.items i)) k h.within (λ live. absurd (both (slice_index_or p.live k false) dead live));
+  within = below_more (λ i. slice_index_or p.live i false ≡ true → ((pos 0 -ℤ lower_side p.lines i) ≤ℤ entry num i) × (entry num i ≤ℤ upper_side p.lines i)) k h.within (λ live. absurd (both (slice_index_or p.live k false) dead live));
   later = λ i m. h.later i (omega (arith, m));
   rows = h.rows;
   seen_rows = h.seen_rows;
   not_negative = h.not_negative;
-  entries = below_more (λ i. line_sum p.lines.items i items ≡ entry o i) k h.entries (h.no_entries k (omega arith) l ∙ sym (q.dead k l dead).0);
+  entries = below_more (λ i. line_sum p.lines i items ≡ entry o i) k h.entries (h.no_entries k (omega arith) l ∙ sym (q.dead k l dead).0);
   no_entries = λ i m n. h.no_entries i (omega (arith, m)) n;
   sides = h.sides;
   few = omega (arith, h.few, live_below_same p.live k dead);
@@ -133,10 +133,10 @@ end_facts lines k o e m h x small upper lower = by_case x.which
     by_case (inr u) = (omega (arith, ints, u.at), omega (arith, ints, x.some, u.at), omega (arith, ints, u.times, u.sign), omega (arith, ints, u.times, small), omega (arith, ints, u.at, lower), inr u.row)
 
 -- a variable that is live
-pub corner_live : (k : ℕ) (p : Reduced) (o num : List ℤ) (items : List (ℕ × ℤ)) (e : End) → k < 3 → IsReduced p o → slice_index_or p.live k false ≡ true → IsEnd p.lines.items k (entry o k) e
+pub corner_live : (k : ℕ) (p : Reduced) (o num : List ℤ) (items : List (ℕ × ℤ)) (e : End) → k < 3 → IsReduced p o → slice_index_or p.live k false ≡ true → IsEnd p.lines k (entry o k) e
     → IsCornerTo k p o num items → IsCornerTo (k + 1) p o (set num k e.at) (items ++ (e.row, e.times) ∷ [])
 corner_live k p o num items e l q live is h =
-    let lines = p.lines.items in
+    let lines = p.lines in
     let n = level p.live in
     let some : 1 ≤ n = level_some p.live k l live in
     let box = q.boxes k l live in
@@ -170,7 +170,7 @@ corner_live k p o num items e l q live is h =
       num_small = λ i. part (nat_eq i k) refl i at_k others f.4;
     }
   where
-    exists : (e.row ≡ 2 * k) ⊎ (e.row ≡ 2 * k + 1) → 2 * k + 1 < length p.lines.items → e.row < length p.lines.items
+    exists : (e.row ≡ 2 * k) ⊎ (e.row ≡ 2 * k + 1) → 2 * k + 1 < length p.lines → e.row < length p.lines
     exists (inl r) w = omega (arith, r, w)
     exists (inr r) w = omega (arith, r, w)
 
@@ -211,19 +211,19 @@ corner_best p o num items q h =
         let m : (pos 0 -ℤ a) ≤ℤ s = omega (arith, ints, h) in
         subst (λ z. z ≤ℤ (s *ℤ pos 1)) (ring (a ∷ []) (lit (pos 0) ⊖ var 0) (lit (negsuc 0) ⊗ var 0) refl) (subst (λ z. (pos 0 -ℤ a) ≤ℤ z) (ring (s ∷ []) (var 0) (var 0 ⊗ lit (pos 1)) refl) m)
 
-    meets : (l : ℕ) → (l < 0) ⊎ ((k : ℕ) × (k < 3) × (slice_index_or p.live k false ≡ true) × ((l ≡ 2 * k) ⊎ (l ≡ 2 * k + 1))) → along (line_at p.lines.items l).c num ≤ℤ ((line_at p.lines.items l).h *ℤ pos 1)
+    meets : (l : ℕ) → (l < 0) ⊎ ((k : ℕ) × (k < 3) × (slice_index_or p.live k false ≡ true) × ((l ≡ 2 * k) ⊎ (l ≡ 2 * k + 1))) → along (line_at p.lines l).c num ≤ℤ ((line_at p.lines l).h *ℤ pos 1)
     meets l (inl none) = absurd (omega (arith, none))
     meets l (inr (k, k3, live, inl e)) =
-        subst (λ r. along (line_at p.lines.items r).c num ≤ℤ ((line_at p.lines.items r).h *ℤ pos 1)) (sym e)
-        (subst (λ z. z ≤ℤ (upper_side p.lines.items k *ℤ pos 1)) (sym (ap (λ c. along c num) (q.boxes k k3 live).upper ∙ along_axis k (pos 1) num k3)) (upper (entry num k) (upper_side p.lines.items k) (h.within k k3 live).1))
+        subst (λ r. along (line_at p.lines r).c num ≤ℤ ((line_at p.lines r).h *ℤ pos 1)) (sym e)
+        (subst (λ z. z ≤ℤ (upper_side p.lines k *ℤ pos 1)) (sym (ap (λ c. along c num) (q.boxes k k3 live).upper ∙ along_axis k (pos 1) num k3)) (upper (entry num k) (upper_side p.lines k) (h.within k k3 live).1))
     meets l (inr (k, k3, live, inr e)) =
-        subst (λ r. along (line_at p.lines.items r).c num ≤ℤ ((line_at p.lines.items r).h *ℤ pos 1)) (sym e)
-        (subst (λ z. z ≤ℤ (lower_side p.lines.items k *ℤ pos 1)) (sym (ap (λ c. along c num) (q.boxes k k3 live).lower ∙ along_axis k (negsuc 0) num k3)) (lower (entry num k) (lower_side p.lines.items k) (h.within k k3 live).0))
+        subst (λ r. along (line_at p.lines r).c num ≤ℤ ((line_at p.lines r).h *ℤ pos 1)) (sym e)
+        (subst (λ z. z ≤ℤ (lower_side p.lines k *ℤ pos 1)) (sym (ap (λ c. along c num) (q.boxes k k3 live).lower ∙ along_axis k (negsuc 0) num k3)) (lower (entry num k) (lower_side p.lines k) (h.within k k3 live).0))
 
 -- a box without points
-pub empty_box : (k : ℕ) (p : Reduced) (o : List ℤ) → k < 3 → IsReduced p o → slice_index_or p.live k false ≡ true → (upper_side p.lines.items k +ℤ lower_side p.lines.items k) <ℤ pos 0 → IsEmpty p ((2 * k, pos 1) ∷ (2 * k + 1, pos 1) ∷ [])
+pub empty_box : (k : ℕ) (p : Reduced) (o : List ℤ) → k < 3 → IsReduced p o → slice_index_or p.live k false ≡ true → (upper_side p.lines k +ℤ lower_side p.lines k) <ℤ pos 0 → IsEmpty p ((2 * k, pos 1) ∷ (2 * k + 1, pos 1) ∷ [])
 empty_box k p o l q live less =
-    let lines = p.lines.items in
+    let lines = p.lines in
     let n = level p.live in
     let box = q.boxes k l live in
     let some : 1 ≤ n = level_some p.live k l live in

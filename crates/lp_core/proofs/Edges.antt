@@ -1,20 +1,17 @@
 -- Two variables: the corner of the box, and the optimum on the edge of a row, as one of the program without the edge's variable.
-use Rattle.std.proofs.Common.{◌≡◌, ◌≢◌, ℕ, zero, suc, ◌+◌, ◌-◌, ◌*◌, ◌<◌, ◌≤◌, min, max, List, [], ◌∷◌, length, map, set, refl, sym, ap, subst, ◌∙◌, arith, lit<, lit≤, ◌⊎◌, inl, inr}
-use Rattle.std.specs.Prelude.{ℤ, pos, negsuc, ◌+ℤ◌, ◌-ℤ◌, ◌*ℤ◌, ◌<ℤ◌, ◌≤ℤ◌, All, Bool, true, false, cond, nat_eq, slice_index_or}
+use Rattle.std.proofs.Common.{◌≡◌, ◌≢◌, ℕ, zero, suc, ◌+◌, ◌-◌, ◌*◌, ◌<◌, ◌≤◌, min, max, List, [], ◌∷◌, length, map, refl, sym, ap, subst, ◌∙◌, arith, lit<, lit≤, ◌⊎◌, inl, inr}
+use Rattle.std.specs.Prelude.{ℤ, pos, negsuc, ◌+ℤ◌, ◌-ℤ◌, ◌*ℤ◌, ◌<ℤ◌, ◌≤ℤ◌, Bool, true, false, cond, nat_eq, slice_index_or}
 use Rattle.std.specs.List.{range_with_len}
-use Rattle.std.specs.Int.RustNames.{unsigned_abs}
 use Rattle.std.proofs.lemmas.Int.{ints}
 use Rattle.std.proofs.lemmas.Bool.Decides.{nat_tests}
 use Rattle.std.proofs.lemmas.List.{get_or-set_same, get_or-set_other}
-use Rattle.std.proofs.lemmas.List.Elements.{All-cons, All-nil}
 use Rattle.std.proofs.lemmas.List.FromFn.{length-map-range_with_len, get_or-map-range_with_len}
 use Rattle.exact_algebra.specs.Poly.{var, lit, ◌⊕◌, ◌⊖◌, ◌⊗◌}
 use Rattle.exact_algebra.specs.Normal.{is_nought}
 use Rattle.exact_algebra.proofs.Normal.{ring}
-use Rattle.exact_algebra.proofs.Order.{at_most_from_same}
 use Rattle.lp_cert.specs.Program.{Program, IsProgram, entry, axis}
 use Rattle.lp_core.specs.declared.reduced.Line.{Line}
-use Rattle.lp_core.specs.declared.reduced.Reduced.{Reduced}
+use Rattle.lp_core.specs.Reduced.{Reduced}
 use Rattle.lp_core.specs.declared.reduced.Optimum.{Optimum}
 use Rattle.lp_core.specs.declared.pivot.Pivot.{Pivot}
 use Rattle.lp_core.specs.declared.corner.End.{End}
@@ -26,40 +23,20 @@ use Rattle.lp_core.specs.Corner.{IsEnd}
 use Rattle.lp_core.specs.Elimination.{IsEliminated, IsLifted, factor_of, source_of, way, with_pivot}
 use Rattle.lp_core.specs.Lines.{along, is_seen, all_seen, line_at}
 use Rattle.lp_core.specs.Search.{IsReduced, IsBest, IsEmpty}
-use Rattle.lp_core.specs.Sizes.{level, num_most, den_most, dual_most, farkas_most, AreAtMost, AreFew}
-use Rattle.lp_core.specs.Planar.{AreEnds, IsSpot, IsTip, half_line, left_entry, left_objective, left_side, lines_of, optimum_of, pivot_of, spot_num, spot_items, tip_num, whole_of, farkas_of}
-use Rattle.lp_core.proofs.Along.{along_is}
+use Rattle.lp_core.specs.Smaller.{eliminated, smaller, source_line, rest_of}
+use Rattle.lp_core.specs.Sizes.{level}
+use Rattle.lp_core.specs.Bounds.{IsApart, IsPeak, IsReach, IsSeenRow, left_entry, left_objective, left_side}
+use Rattle.lp_core.specs.Planar.{AreEnds, IsSpot, half_line, lines_of, optimum_of, peak_of, pivot_of, reach_of, spot_num, spot_items, tip_num, whole_of, farkas_of}
 use Rattle.lp_core.proofs.Back.{best_back, empty_back}
 use Rattle.lp_core.proofs.Boxes.{axis_same, axis_other, upper_seen, lower_seen, seen_cases, first_seen}
 use Rattle.lp_core.proofs.Corners.{IsCornerTo, no_corner, corner_dead, corner_live, corner_best}
-use Rattle.lp_core.proofs.Ends.{IsOn, tip_meets, tip_on}
+use Rattle.lp_core.proofs.Ends.{tip_on}
 use Rattle.lp_core.proofs.Fits.{by_place}
 use Rattle.lp_core.proofs.Halves.{whole_is, whole_line, whole_count}
-use Rattle.lp_core.proofs.Smaller.{IsStep, levels, seen_source, smaller_is_reduced}
+use Rattle.lp_core.proofs.Lines.{two_items, no_part, along_single, reach_fewer, apart_empty, crossed_empty, inner_best}
+use Rattle.lp_core.proofs.Smaller.{IsStep, seen_source}
 use Rattle.lp_core.proofs.Steps.{eliminated_same}
 use Rattle.lp_core.proofs.Wholes.{below_true, below_false, from_true, whole_level}
-
-no_part : (i : ℕ) → entry (pos 0 ∷ pos 0 ∷ pos 0 ∷ []) i ≡ pos 0
-no_part zero = refl
-no_part (suc zero) = refl
-no_part (suc (suc zero)) = refl
-no_part (suc (suc (suc i))) = refl
-
--- ---- points with one part
-along_single : (c : List ℤ) (k : ℕ) (t : ℤ) → k < 3 → along c (set (pos 0 ∷ pos 0 ∷ pos 0 ∷ []) k t) ≡ entry c k *ℤ t
-along_single c zero t l = along_is c (t ∷ pos 0 ∷ pos 0 ∷ []) ∙ ring (entry c 0 ∷ entry c 1 ∷ entry c 2 ∷ t ∷ []) (var 0 ⊗ var 3 ⊕ (var 1 ⊗ lit (pos 0) ⊕ var 2 ⊗ lit (pos 0))) (var 0 ⊗ var 3) refl
-along_single c (suc zero) t l = along_is c (pos 0 ∷ t ∷ pos 0 ∷ []) ∙ ring (entry c 0 ∷ entry c 1 ∷ entry c 2 ∷ t ∷ []) (var 0 ⊗ lit (pos 0) ⊕ (var 1 ⊗ var 3 ⊕ var 2 ⊗ lit (pos 0))) (var 1 ⊗ var 3) refl
-along_single c (suc (suc zero)) t l = along_is c (pos 0 ∷ pos 0 ∷ t ∷ []) ∙ ring (entry c 0 ∷ entry c 1 ∷ entry c 2 ∷ t ∷ []) (var 0 ⊗ lit (pos 0) ⊕ (var 1 ⊗ lit (pos 0) ⊕ var 2 ⊗ var 3)) (var 2 ⊗ var 3) refl
-along_single c (suc (suc (suc k))) t l = absurd (omega (arith, l))
-
-single_small : (k m : ℕ) (t : ℤ) → k < 3 → unsigned_abs t ≤ m → AreAtMost m (set (pos 0 ∷ pos 0 ∷ pos 0 ∷ []) k t)
-single_small zero m t l h = record { first = h; second = omega arith; third = omega arith }
-single_small (suc zero) m t l h = record { first = omega arith; second = h; third = omega arith }
-single_small (suc (suc zero)) m t l h = record { first = omega arith; second = omega arith; third = h }
-single_small (suc (suc (suc k))) m t l h = absurd (omega (arith, l))
-
-abbrev two_items : ℕ → ℤ → ℕ → ℤ → List (ℕ × ℤ)
-two_items a u c w = (a, u) ∷ (c, w) ∷ []
 
 -- ---- a row of a box stays as it is
 pub box_left : (p : Pivot) (x : Line) (k : ℕ) (s : ℤ) → x.c ≡ axis k s → k < 3 → p.place ≢ k → (left_entry p x k ≡ s) × (left_side p x ≡ x.h)
@@ -68,10 +45,7 @@ box_left p x k s e l n =
     (sym (i.entries k l) ∙ ap (λ c. entry c k) e ∙ axis_same k s l, sym i.side)
 
 -- ---- the program without the variable of a pivot
-eliminated : Pivot → Line → Line
-eliminated p x = cond (is_nought (entry x.c p.place)) x (record { c = left_entry p x 0 ∷ left_entry p x 1 ∷ left_entry p x 2 ∷ []; h = left_side p x })
-
-eliminated_is : (p : Pivot) (x : Line) → IsEliminated p x (eliminated p x)
+pub eliminated_is : (p : Pivot) (x : Line) → IsEliminated p x (eliminated p x)
 unfolding eliminated
 eliminated_is p x = by_entry (entry x.c p.place) refl
   where
@@ -94,33 +68,24 @@ eliminated_is p x = by_entry (entry x.c p.place) refl
         subst (λ b. IsEliminated p x (cond b x (record { c = left_entry p x 0 ∷ left_entry p x 1 ∷ left_entry p x 2 ∷ []; h = left_side p x }))) f (other (λ g. positive n (sym e ∙ g)))
     by_entry (negsuc n) e = other (λ g. negative n (sym e ∙ g))
 
-source_line : Pivot → Reduced → ℕ → ℕ → Line
-source_line p P r l = eliminated p (line_at P.lines.items (source_of p P.live r l))
-
-pub smaller : Pivot → Reduced → ℕ → Reduced
-smaller p P r = record { live = set P.live p.place false; lines = record { items = map (source_line p P r) (range_with_len 0 (min (length P.lines.items) (max r 6))) } }
-
-pub rest_of : Pivot → List ℤ → List ℤ
-rest_of p o = left_objective p o 0 ∷ left_objective p o 1 ∷ left_objective p o 2 ∷ []
-
-pub step_of : (P : Reduced) (o : List ℤ) (r : ℕ) (p : Pivot) → IsReduced P o → r < length P.lines.items → p.line ≡ line_at P.lines.items r → IsStep P o r p (smaller p P r) (rest_of p o)
-unfolding smaller rest_of source_line
+pub step_of : (P : Reduced) (o : List ℤ) (r : ℕ) (p : Pivot) → IsReduced P o → r < length P.lines → p.line ≡ line_at P.lines r → IsStep P o r p (smaller p P r) (rest_of p o)
+unfolding smaller rest_of
 step_of P o r p reduced within line = record {
   reduced = reduced;
   within = within;
   line = line;
   live = refl;
-  count = length-map-range_with_len (source_line p P r) 0 (min (length P.lines.items) (max r 6));
+  count = length-map-range_with_len (source_line p P r) 0 (min (length P.lines) (max r 6));
   each = λ l h.
       let d : Line = record { c = []; h = pos 0 } in
-      let count : length (map (source_line p P r) (range_with_len 0 (min (length P.lines.items) (max r 6)))) ≡ min (length P.lines.items) (max r 6) = length-map-range_with_len (source_line p P r) 0 (min (length P.lines.items) (max r 6)) in
-      subst (λ y. IsEliminated p (line_at P.lines.items (source_of p P.live r l)) y) (sym (get_or-map-range_with_len (source_line p P r) 0 (min (length P.lines.items) (max r 6)) l l d (omega (arith, h, count)) (omega arith)))
-      (eliminated_is p (line_at P.lines.items (source_of p P.live r l)));
+      let count : length (map (source_line p P r) (range_with_len 0 (min (length P.lines) (max r 6)))) ≡ min (length P.lines) (max r 6) = length-map-range_with_len (source_line p P r) 0 (min (length P.lines) (max r 6)) in
+      subst (λ y. IsEliminated p (line_at P.lines (source_of p P.live r l)) y) (sym (get_or-map-range_with_len (source_line p P r) 0 (min (length P.lines) (max r 6)) l l d (omega (arith, h, count)) (omega arith)))
+      (eliminated_is p (line_at P.lines (source_of p P.live r l)));
   is_rest = by_place _ _ _ (λ k. left_objective p o k) refl refl refl;
 }
 
 -- ---- what was seen counts
-seen_best : (seen new : ℕ → Bool) (P : Reduced) (o : List ℤ) (b : Optimum) → ((l : ℕ) → seen l ≡ true → new l ≡ true) → ((l : ℕ) → l < length P.lines.items → new l ≡ true → seen l ≡ true) → IsBest seen P o b → IsBest new P o b
+seen_best : (seen new : ℕ → Bool) (P : Reduced) (o : List ℤ) (b : Optimum) → ((l : ℕ) → seen l ≡ true → new l ≡ true) → ((l : ℕ) → l < length P.lines → new l ≡ true → seen l ≡ true) → IsBest seen P o b → IsBest new P o b
 seen_best seen new P o b more less h = record {
   met = record { positive = h.met.positive; each = λ l w e. h.met.each l w (less l w e) };
   dual = record {
@@ -204,86 +169,27 @@ module _ (p : Program) (o : List ℤ) (h : IsProgram p) (two : p.dimension ≡ 2
       k_inside : 1 - e.place < 3
       k_inside = omega arith
 
-      source_first : (l : ℕ) → source_of (pivot_of e) (whole_of p).live r l < r
-      source_first l = by_case (is_seen (whole_of p).live r l) refl
-        where
-          by_case : (b : Bool) → is_seen (whole_of p).live r l ≡ b → cond b l (2 * e.place) < r
-          by_case true f = seen_first r l boxes f
-          by_case false f = let m = e.planar in omega (arith, m, boxes)
+      apart : 1 - e.place ≢ e.place
+      apart = λ f. let m = e.planar in absurd (omega (arith, m, f))
 
-      rest_at : (k : ℕ) → k < 3 → entry (rest_of (pivot_of e) o) k ≡ left_objective (pivot_of e) o k
-      rest_at = step.is_rest
+      live : slice_index_or (whole_of p).live (1 - e.place) false ≡ true
+      live = lives (1 - e.place) (let m = e.planar in omega (arith, m))
 
-      other_dead : (i : ℕ) → i < 3 → i ≢ 1 - e.place → slice_index_or (smaller (pivot_of e) (whole_of p) r).live i false ≡ false
-      other_dead i l n = ap (λ (xs : List Bool). slice_index_or xs i false) step.live ∙ by_case (nat_eq i e.place) refl
-        where
-          by_case : (b : Bool) → nat_eq i e.place ≡ b → slice_index_or (set (whole_of p).live e.place false) i false ≡ false
-          by_case true g =
-              let m : i ≡ e.place = grind (arith, nat_tests) in
-              ap (λ j. slice_index_or (set (whole_of p).live e.place false) j false) m ∙ get_or-set_same (whole_of p).live e.place false false (let t = (whole_is p).three in let u = e.inside in omega (arith, t, u))
-          by_case false g =
-              let m : i ≢ e.place = grind (arith, nat_tests) in
-              let last : i ≡ 2 = let u = e.planar in omega (arith, l, n, m, u) in
-              get_or-set_other (whole_of p).live e.place i false false m ∙ ap (λ j. slice_index_or (whole_of p).live j false) last ∙ third
+      lone : (i : ℕ) → i < 3 → i ≢ 1 - e.place → i ≢ e.place → slice_index_or (whole_of p).live i false ≡ false
+      lone i l n m = let last : i ≡ 2 = let u = e.planar in omega (arith, l, n, m, u) in ap (λ j. slice_index_or (whole_of p).live j false) last ∙ third
 
-      level_one : level (smaller (pivot_of e) (whole_of p) r).live ≡ 1
-      level_one = let a = levels (whole_of p) o r (pivot_of e) (smaller (pivot_of e) (whole_of p) r) (rest_of (pivot_of e) o) step in omega (arith, a, level_two)
+      -- the first rows are those that were seen
+      first_row : (l : ℕ) → l < r → IsSeenRow (whole_of p) r l
+      first_row l f = (omega (arith, f, within, whole_count p), first_seen (whole_of p).live r l f)
+
+      row_first : (l : ℕ) → IsSeenRow (whole_of p) r l → l < r
+      row_first l h = seen_first r l boxes h.1
+
+      seen_at : (l : ℕ) → l < r → source_of (pivot_of e) (whole_of p).live r l ≡ l
+      seen_at l first = seen_source (whole_of p) o r (pivot_of e) (smaller (pivot_of e) (whole_of p) r) (rest_of (pivot_of e) o) step l (first_seen (whole_of p).live r l first)
 
       -- ---- two rows that leave no point
-      module _ (i j : ℕ) (m n : ℤ) (i_first : i < r) (j_first : j < r) (m_some : pos 0 ≤ℤ m) (n_some : pos 0 ≤ℤ n) (m_small : unsigned_abs m ≤ 18) (n_small : unsigned_abs n ≤ 18)
-          (entries : m *ℤ left_entry (pivot_of e) (line_at (lines_of p) i) (1 - e.place) +ℤ n *ℤ left_entry (pivot_of e) (line_at (lines_of p) j) (1 - e.place) ≡ pos 0)
-          (sides : (m *ℤ left_side (pivot_of e) (line_at (lines_of p) i) +ℤ n *ℤ left_side (pivot_of e) (line_at (lines_of p) j)) <ℤ pos 0) where
-        seen_at : (l : ℕ) → l < r → source_of (pivot_of e) (whole_of p).live r l ≡ l
-        seen_at l first = seen_source (whole_of p) o r (pivot_of e) (smaller (pivot_of e) (whole_of p) r) (rest_of (pivot_of e) o) step l (first_seen (whole_of p).live r l first)
-
-        inside_at : (l : ℕ) → l < r → l < length (smaller (pivot_of e) (whole_of p) r).lines.items
-        inside_at l first = let a = step.count in omega (arith, a, first, within, whole_count p)
-
-        entry_at : (l : ℕ) → l < r → entry (line_at (smaller (pivot_of e) (whole_of p) r).lines.items l).c (1 - e.place) ≡ left_entry (pivot_of e) (line_at (lines_of p) l) (1 - e.place)
-        entry_at l first = (step.each l (inside_at l first)).entries (1 - e.place) k_inside ∙ ap (λ a. left_entry (pivot_of e) (line_at (lines_of p) a) (1 - e.place)) (seen_at l first)
-
-        side_at : (l : ℕ) → l < r → (line_at (smaller (pivot_of e) (whole_of p) r).lines.items l).h ≡ left_side (pivot_of e) (line_at (lines_of p) l)
-        side_at l first = (step.each l (inside_at l first)).side ∙ ap (λ a. left_side (pivot_of e) (line_at (lines_of p) a)) (seen_at l first)
-
-        two_entry : (a : ℕ) → a < 3 → m *ℤ entry (line_at (smaller (pivot_of e) (whole_of p) r).lines.items i).c a +ℤ (n *ℤ entry (line_at (smaller (pivot_of e) (whole_of p) r).lines.items j).c a +ℤ pos 0) ≡ pos 0
-        two_entry a l = by_case (nat_eq a (1 - e.place)) refl
-          where
-            by_case : (b : Bool) → nat_eq a (1 - e.place) ≡ b → m *ℤ entry (line_at (smaller (pivot_of e) (whole_of p) r).lines.items i).c a +ℤ (n *ℤ entry (line_at (smaller (pivot_of e) (whole_of p) r).lines.items j).c a +ℤ pos 0) ≡ pos 0
-            by_case true g =
-                let same : a ≡ 1 - e.place = grind (arith, nat_tests) in
-                ap (λ c. m *ℤ entry (line_at (smaller (pivot_of e) (whole_of p) r).lines.items i).c c +ℤ (n *ℤ entry (line_at (smaller (pivot_of e) (whole_of p) r).lines.items j).c c +ℤ pos 0)) same
-                ∙ ap (λ z. m *ℤ z +ℤ (n *ℤ entry (line_at (smaller (pivot_of e) (whole_of p) r).lines.items j).c (1 - e.place) +ℤ pos 0)) (entry_at i i_first)
-                ∙ ap (λ z. m *ℤ left_entry (pivot_of e) (line_at (lines_of p) i) (1 - e.place) +ℤ (n *ℤ z +ℤ pos 0)) (entry_at j j_first)
-                ∙ ring ((m *ℤ left_entry (pivot_of e) (line_at (lines_of p) i) (1 - e.place)) ∷ (n *ℤ left_entry (pivot_of e) (line_at (lines_of p) j) (1 - e.place)) ∷ []) (var 0 ⊕ (var 1 ⊕ lit (pos 0))) (var 0 ⊕ var 1) refl
-                ∙ entries
-            by_case false g =
-                let apart : a ≢ 1 - e.place = grind (arith, nat_tests) in
-                let d = (smaller_is_reduced (whole_of p) o r (pivot_of e) (smaller (pivot_of e) (whole_of p) r) (rest_of (pivot_of e) o) step).dead a l (other_dead a l apart) in
-                ap (λ z. m *ℤ z +ℤ (n *ℤ entry (line_at (smaller (pivot_of e) (whole_of p) r).lines.items j).c a +ℤ pos 0)) (d.1 i (inside_at i i_first))
-                ∙ ap (λ z. m *ℤ pos 0 +ℤ (n *ℤ z +ℤ pos 0)) (d.1 j (inside_at j j_first))
-                ∙ ring (m ∷ n ∷ []) (var 0 ⊗ lit (pos 0) ⊕ (var 1 ⊗ lit (pos 0) ⊕ lit (pos 0))) (lit (pos 0)) refl
-
-        two_empty : IsEmpty (smaller (pivot_of e) (whole_of p) r) (two_items i m j n)
-        two_empty =
-            let both : (F : ℕ × ℤ → Type 0) → F (i, m) → F (j, n) → All F ((i, m) ∷ (j, n) ∷ []) = λ F a d. All-cons F (i, m) ((j, n) ∷ []) a (All-cons F (j, n) [] d (All-nil F)) in
-            record {
-              none = record {
-                rows = both (λ item. item.0 < length (smaller (pivot_of e) (whole_of p) r).lines.items) (inside_at i i_first) (inside_at j j_first);
-                seen_rows = both (λ item. all_seen item.0 ≡ true) refl refl;
-                not_negative = both (λ item. pos 0 ≤ℤ item.1) m_some n_some;
-                entries = two_entry;
-                sides = below _ _ sides (
-                    ap (λ z. m *ℤ z +ℤ (n *ℤ (line_at (smaller (pivot_of e) (whole_of p) r).lines.items j).h +ℤ pos 0)) (side_at i i_first)
-                    ∙ ap (λ z. m *ℤ left_side (pivot_of e) (line_at (lines_of p) i) +ℤ (n *ℤ z +ℤ pos 0)) (side_at j j_first)
-                    ∙ ring ((m *ℤ left_side (pivot_of e) (line_at (lines_of p) i)) ∷ (n *ℤ left_side (pivot_of e) (line_at (lines_of p) j)) ∷ []) (var 0 ⊕ (var 1 ⊕ lit (pos 0))) (var 0 ⊕ var 1) refl
-                    );
-              };
-              few = subst (λ a. AreFew (a + 1) (farkas_most a) ((i, m) ∷ (j, n) ∷ [])) (sym level_one) (record { few = lit≤ tt; small = both (λ item. unsigned_abs item.1 ≤ farkas_most 1) m_small n_small });
-            }
-          where
-            below : (a b : ℤ) → a <ℤ pos 0 → b ≡ a → b ≤ℤ negsuc 0
-            below a b h f = omega (arith, ints)
-
+      module _ (i j : ℕ) (m n : ℤ) (i_first : i < r) (j_first : j < r) (none : IsEmpty (smaller (pivot_of e) (whole_of p) r) (two_items i m j n)) where
         triple : ℕ → ℤ → ℕ → ℤ → ℤ → List (ℕ × ℤ)
         triple a u c w z = (a, u) ∷ (c, w) ∷ (r, z) ∷ []
 
@@ -305,79 +211,31 @@ module _ (p : Program) (o : List ℤ) (h : IsProgram p) (two : p.dimension ≡ 2
 
         pub edge_empty : (old : Optimum) → IsBest (is_seen (whole_of p).live r) (whole_of p) o old → ((half_line e.row).h *ℤ old.den) <ℤ along (half_line e.row).c old.num → IsEmpty (whole_of p) (farkas_of (pivot_of e) (lines_of p) r (i, m) (j, n))
         edge_empty old best broken =
-            empty_back (whole_of p) o r (pivot_of e) (smaller (pivot_of e) (whole_of p) r) (rest_of (pivot_of e) o) step old (two_items i m j n) (farkas_of (pivot_of e) (lines_of p) r (i, m) (j, n)) best broken two_empty two_lifted
+            empty_back (whole_of p) o r (pivot_of e) (smaller (pivot_of e) (whole_of p) r) (rest_of (pivot_of e) o) step old (two_items i m j n) (farkas_of (pivot_of e) (lines_of p) r (i, m) (j, n)) best broken none two_lifted
 
-      module _ (ends : Ends) (t : Tip) (bounds : AreEnds (lines_of p) (pivot_of e) (1 - e.place) r r ends) (open_ : pos 0 ≤ℤ (ends.lower.entry *ℤ ends.upper.side +ℤ ends.upper.entry *ℤ ends.lower.side))
-          (tip : IsTip ends (left_objective (pivot_of e) o (1 - e.place)) t) where
-        on : IsOn (lines_of p) (pivot_of e) (1 - e.place) (left_objective (pivot_of e) o (1 - e.place)) r t
-        on = tip_on (lines_of p) (pivot_of e) (1 - e.place) r ends (left_objective (pivot_of e) o (1 - e.place)) t bounds tip
+      pub edge_apart : (l : ℕ) → IsApart (lines_of p) (pivot_of e) (1 - e.place) (λ i. i < r) l → IsEmpty (smaller (pivot_of e) (whole_of p) r) (two_items l (pos 1) l (pos 0))
+      edge_apart l h = apart_empty (whole_of p) o r (pivot_of e) (smaller (pivot_of e) (whole_of p) r) (rest_of (pivot_of e) o) step (1 - e.place) k_inside apart live lone l (first_row l h.row) h.none h.side
+
+      pub edge_crossed : (ends : Ends) → AreEnds (lines_of p) (pivot_of e) (1 - e.place) (λ i. i < r) (λ i. i < r) ends → (ends.lower.entry *ℤ ends.upper.side +ℤ ends.upper.entry *ℤ ends.lower.side) <ℤ pos 0
+          → IsEmpty (smaller (pivot_of e) (whole_of p) r) (two_items ends.upper.row ends.lower.entry ends.lower.row ends.upper.entry)
+      edge_crossed ends bounds crossed =
+          crossed_empty (whole_of p) o r (pivot_of e) (smaller (pivot_of e) (whole_of p) r) (rest_of (pivot_of e) o) step (1 - e.place) k_inside apart live lone (λ i. i < r) (reach_of ends)
+          (reach_fewer (lines_of p) (pivot_of e) (1 - e.place) (λ i. i < r) (λ i. i < r) (λ i. i < r) (IsSeenRow (whole_of p) r) (reach_of ends) (λ l h. h) first_row bounds) ends.upper.small_entry ends.lower.small_entry crossed
+
+      module _ (ends : Ends) (t : Tip) (bounds : AreEnds (lines_of p) (pivot_of e) (1 - e.place) (λ i. i < r) (λ i. i < r) ends) (open_ : pos 0 ≤ℤ (ends.lower.entry *ℤ ends.upper.side +ℤ ends.upper.entry *ℤ ends.lower.side))
+          (tip : IsPeak (reach_of ends) (left_objective (pivot_of e) o (1 - e.place)) (peak_of t)) where
+        seen_bounds : IsReach (lines_of p) (pivot_of e) (1 - e.place) (IsSeenRow (whole_of p) r) (IsSeenRow (whole_of p) r) (reach_of ends)
+        seen_bounds = reach_fewer (lines_of p) (pivot_of e) (1 - e.place) (λ i. i < r) (IsSeenRow (whole_of p) r) (λ i. i < r) (IsSeenRow (whole_of p) r) (reach_of ends) row_first first_row bounds
+
+        edge_best_inner : IsBest all_seen (smaller (pivot_of e) (whole_of p) r) (rest_of (pivot_of e) o) (record { num = tip_num e t; den = t.den; items = (t.row, t.times) ∷ [] })
+        edge_best_inner =
+            let a = t.small_at in
+            let d = t.small_den in
+            let m = t.small_times in
+            inner_best (whole_of p) o r (pivot_of e) (smaller (pivot_of e) (whole_of p) r) (rest_of (pivot_of e) o) step (1 - e.place) k_inside apart live lone (reach_of ends) (peak_of t) seen_bounds open_ tip (omega (arith, a)) d (omega (arith, m))
 
         tip_seen : source_of (pivot_of e) (whole_of p).live r t.row ≡ t.row
-        tip_seen = seen_source (whole_of p) o r (pivot_of e) (smaller (pivot_of e) (whole_of p) r) (rest_of (pivot_of e) o) step t.row (first_seen (whole_of p).live r t.row on.row)
-
-        tip_inside : t.row < length (smaller (pivot_of e) (whole_of p) r).lines.items
-        tip_inside = let a = step.count in let b = on.row in omega (arith, a, b, within, whole_count p)
-
-        pub inner : Optimum
-        inner = record { num = tip_num e t; den = t.den; items = (t.row, t.times) ∷ [] }
-
-        inner_row : (l : ℕ) → l < length (smaller (pivot_of e) (whole_of p) r).lines.items → along (line_at (smaller (pivot_of e) (whole_of p) r).lines.items l).c (tip_num e t) ≤ℤ ((line_at (smaller (pivot_of e) (whole_of p) r).lines.items l).h *ℤ t.den)
-        inner_row l w =
-            let k = 1 - e.place in
-            let x = line_at (lines_of p) (source_of (pivot_of e) (whole_of p).live r l) in
-            let y = line_at (smaller (pivot_of e) (whole_of p) r).lines.items l in
-            let i = step.each l w in
-            let left : left_entry (pivot_of e) x k *ℤ t.at ≡ along y.c (tip_num e t) = ap (λ z. z *ℤ t.at) (sym (i.entries k k_inside)) ∙ sym (along_single y.c k t.at k_inside) in
-            subst (λ z. z ≤ℤ (y.h *ℤ t.den)) left
-            (subst (λ z. (left_entry (pivot_of e) x k *ℤ t.at) ≤ℤ (z *ℤ t.den)) (sym i.side)
-            (tip_meets (lines_of p) (pivot_of e) k r ends bounds open_ (source_of (pivot_of e) (whole_of p).live r l) (source_first l) (left_objective (pivot_of e) o k) t tip))
-
-        tip_entry : entry (line_at (smaller (pivot_of e) (whole_of p) r).lines.items t.row).c (1 - e.place) ≡ left_entry (pivot_of e) (line_at (lines_of p) t.row) (1 - e.place)
-        tip_entry = (step.each t.row tip_inside).entries (1 - e.place) k_inside ∙ ap (λ n. left_entry (pivot_of e) (line_at (lines_of p) n) (1 - e.place)) tip_seen
-
-        tip_side : (line_at (smaller (pivot_of e) (whole_of p) r).lines.items t.row).h ≡ left_side (pivot_of e) (line_at (lines_of p) t.row)
-        tip_side = (step.each t.row tip_inside).side ∙ ap (λ n. left_side (pivot_of e) (line_at (lines_of p) n)) tip_seen
-
-        inner_entry : (i : ℕ) → i < 3 → t.times *ℤ entry (line_at (smaller (pivot_of e) (whole_of p) r).lines.items t.row).c i +ℤ pos 0 ≡ t.den *ℤ entry (rest_of (pivot_of e) o) i
-        inner_entry i l = by_case (nat_eq i (1 - e.place)) refl
-          where
-            by_case : (b : Bool) → nat_eq i (1 - e.place) ≡ b → t.times *ℤ entry (line_at (smaller (pivot_of e) (whole_of p) r).lines.items t.row).c i +ℤ pos 0 ≡ t.den *ℤ entry (rest_of (pivot_of e) o) i
-            by_case true g =
-                let m : i ≡ 1 - e.place = grind (arith, nat_tests) in
-                ap (λ j. t.times *ℤ entry (line_at (smaller (pivot_of e) (whole_of p) r).lines.items t.row).c j +ℤ pos 0) m
-                ∙ ap (λ z. t.times *ℤ z +ℤ pos 0) tip_entry
-                ∙ ring ((t.times *ℤ left_entry (pivot_of e) (line_at (lines_of p) t.row) (1 - e.place)) ∷ []) (var 0 ⊕ lit (pos 0)) (var 0) refl
-                ∙ on.entry
-                ∙ ap (λ z. t.den *ℤ z) (sym (rest_at (1 - e.place) k_inside))
-                ∙ ap (λ j. t.den *ℤ entry (rest_of (pivot_of e) o) j) (sym m)
-            by_case false g =
-                let m : i ≢ 1 - e.place = grind (arith, nat_tests) in
-                let d = (smaller_is_reduced (whole_of p) o r (pivot_of e) (smaller (pivot_of e) (whole_of p) r) (rest_of (pivot_of e) o) step).dead i l (other_dead i l m) in
-                ap (λ z. t.times *ℤ z +ℤ pos 0) (d.1 t.row tip_inside) ∙ ring (t.times ∷ t.den ∷ []) (var 0 ⊗ lit (pos 0) ⊕ lit (pos 0)) (var 1 ⊗ lit (pos 0)) refl ∙ ap (λ z. t.den *ℤ z) (sym d.0)
-
-        inner_best : IsBest all_seen (smaller (pivot_of e) (whole_of p) r) (rest_of (pivot_of e) o) (record { num = tip_num e t; den = t.den; items = (t.row, t.times) ∷ [] })
-        inner_best =
-            let one : (F : ℕ × ℤ → Type 0) → F (t.row, t.times) → All F ((t.row, t.times) ∷ []) = λ F a. All-cons F (t.row, t.times) [] a (All-nil F) in
-            let n = level (smaller (pivot_of e) (whole_of p) r).live in
-            record {
-              met = record { positive = on.positive; each = λ l w s. inner_row l w };
-              dual = record {
-                rows = one (λ item. item.0 < length (smaller (pivot_of e) (whole_of p) r).lines.items) tip_inside;
-                seen_rows = one (λ item. all_seen item.0 ≡ true) refl;
-                not_negative = one (λ item. pos 0 ≤ℤ item.1) on.not_negative;
-                entries = inner_entry;
-                sides = at_most_from_same _ _ (
-                    ap (λ z. t.times *ℤ z +ℤ pos 0) tip_side
-                    ∙ ring ((t.times *ℤ left_side (pivot_of e) (line_at (lines_of p) t.row)) ∷ []) (var 0 ⊕ lit (pos 0)) (var 0) refl
-                    ∙ on.side
-                    ∙ ap (λ z. z *ℤ t.at) (sym (rest_at (1 - e.place) k_inside))
-                    ∙ sym (along_single (rest_of (pivot_of e) o) (1 - e.place) t.at k_inside)
-                    );
-              };
-              num = subst (λ m. AreAtMost (num_most m) (tip_num e t)) (sym level_one) (single_small (1 - e.place) (num_most 1) t.at k_inside (let a = t.small_at in omega (arith, a)));
-              den = subst (λ m. unsigned_abs t.den ≤ den_most m) (sym level_one) t.small_den;
-              few = subst (λ m. AreFew m (dual_most m) ((t.row, t.times) ∷ [])) (sym level_one) (record { few = lit≤ tt; small = one (λ item. unsigned_abs item.1 ≤ dual_most 1) (let a = t.small_times in omega (arith, a)) });
-            }
+        tip_seen = seen_at t.row (tip_on (lines_of p) (pivot_of e) (1 - e.place) (λ i. i < r) (λ i. i < r) (reach_of ends) (left_objective (pivot_of e) o (1 - e.place)) (peak_of t) bounds tip).row
 
         -- ---- back to both variables
         module _ (x : Line) (s : Spot) (base : x ≡ line_at (lines_of p) t.row) (spot : IsSpot e o r t x s) where
@@ -423,4 +281,4 @@ module _ (p : Program) (o : List ℤ) (h : IsProgram p) (two : p.dimension ≡ 2
           pub edge_best : (old : Optimum) → IsBest (is_seen (whole_of p).live r) (whole_of p) o old → ((half_line e.row).h *ℤ old.den) <ℤ along (half_line e.row).c old.num → IsBest (is_seen (whole_of p).live (r + 1)) (whole_of p) o (optimum_of s)
           edge_best old best broken =
               best_back (whole_of p) o r (pivot_of e) (smaller (pivot_of e) (whole_of p) r) (rest_of (pivot_of e) o) step old
-              (record { num = tip_num e t; den = t.den; items = (t.row, t.times) ∷ [] }) (optimum_of s) best broken inner_best lifted spot.den items
+              (record { num = tip_num e t; den = t.den; items = (t.row, t.times) ∷ [] }) (optimum_of s) best broken edge_best_inner lifted spot.den items

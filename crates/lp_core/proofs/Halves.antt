@@ -8,7 +8,7 @@ use Rattle.lp_cert.specs.declared.rows.Row.{Row}
 use Rattle.lp_cert.specs.Program.{Program, IsProgram, IsRow, entry, row_at}
 use Rattle.lp_cert.proofs.Steps.{got}
 use Rattle.lp_core.specs.declared.reduced.Line.{Line}
-use Rattle.lp_core.specs.declared.reduced.Reduced.{Reduced}
+use Rattle.lp_core.specs.Reduced.{Reduced}
 use Rattle.lp_core.specs.Lines.{line_at}
 use Rattle.lp_core.specs.Whole.{IsWhole}
 use Rattle.lp_core.specs.Planar.{line_of, lines_of, whole_of}
@@ -52,10 +52,10 @@ whole_unique p q w =
     let live : q.live ≡ (whole_of p).live =
     fill_by_all (λ k. slice_index_or (whole_of p).live k false) q.live 3 false w.three (λ k l. w.live k l ∙ sym (v.live k l))
     ∙ sym (fill_by_all (λ k. slice_index_or (whole_of p).live k false) (whole_of p).live 3 false v.three (λ k l. refl)) in
-    let lines : q.lines.items ≡ (whole_of p).lines.items =
-    fill_by_all (λ l. line_at (lines_of p) l) q.lines.items (length p.rows) (record { c = []; h = pos 0 }) w.count (λ l h. same_line (line_at q.lines.items l) (line_at (lines_of p) l) (w.entries l h ∙ sym (v.entries l h)) (w.sides l h ∙ sym (v.sides l h)))
+    let lines : q.lines ≡ (whole_of p).lines =
+    fill_by_all (λ l. line_at (lines_of p) l) q.lines (length p.rows) (record { c = []; h = pos 0 }) w.count (λ l h. same_line (line_at q.lines l) (line_at (lines_of p) l) (w.entries l h ∙ sym (v.entries l h)) (w.sides l h ∙ sym (v.sides l h)))
     ∙ sym (fill_by_all (λ l. line_at (lines_of p) l) (lines_of p) (length p.rows) (record { c = []; h = pos 0 }) v.count (λ l h. refl)) in
-    ap (λ xs. let z : Reduced = record { live = xs; lines = q.lines } in z) live ∙ ap (λ xs. let z : Reduced = record { live = (whole_of p).live; lines = record { items = xs } } in z) lines
+    ap (λ xs. let z : Reduced = record { live = xs; lines = q.lines } in z) live ∙ ap (λ xs. let z : Reduced = record { live = (whole_of p).live; lines = xs } in z) lines
 
 -- ---- a row that is read
 pub record IsRead (p : Program) (l : ℕ) (row : Row) : Type 0 where

@@ -1,5 +1,5 @@
 -- Sizes from one number of variables to the next, and counts of variables.
-use Rattle.std.proofs.Common.{◌≡◌, ℕ, zero, suc, ◌+◌, ◌*◌, ◌<◌, ◌≤◌, ◌^◌, List, [], ◌∷◌, length, refl, sym, ap, subst, ◌∙◌, arith, lit≤, add-one}
+use Rattle.std.proofs.Common.{◌≡◌, ℕ, zero, suc, ◌+◌, ◌*◌, ◌<◌, ◌≤◌, ◌^◌, List, [], ◌∷◌, length, refl, sym, ap, subst, ◌∙◌, arith, lit<, lit≤, add-one}
 use Rattle.std.specs.Prelude.{ℤ, All, Bool, true, false, slice_index_or, slice_set}
 use Rattle.std.specs.Int.RustNames.{unsigned_abs}
 use Rattle.lp_core.specs.declared.reduced.Line.{Line}
@@ -30,6 +30,12 @@ level_some live zero l e = subst (λ n. 1 ≤ n) (sym (level_is live)) (let f : 
 level_some live (suc zero) l e = subst (λ n. 1 ≤ n) (sym (level_is live)) (let f : one_if (slice_index_or live 1 false) ≡ 1 = ap one_if e in omega (arith, f))
 level_some live (suc (suc zero)) l e = subst (λ n. 1 ≤ n) (sym (level_is live)) (let f : one_if (slice_index_or live 2 false) ≡ 1 = ap one_if e in omega (arith, f))
 level_some live (suc (suc (suc k))) l e = absurd (omega (arith, l))
+
+pub level_none : (live : List Bool) → ((k : ℕ) → k < 3 → slice_index_or live k false ≡ false) → level live ≡ 0
+level_none live h = level_is live ∙ count _ _ _ (ap one_if (h 0 (lit< tt))) (ap one_if (h 1 (lit< tt))) (ap one_if (h 2 (lit< tt)))
+  where
+    count : (a b d : ℕ) → a ≡ 0 → b ≡ 0 → d ≡ 0 → 0 + a + b + d ≡ 0
+    count a b d e f g = omega (arith, e, f, g)
 
 -- one variable less
 pub level_less : (live : List Bool) (k : ℕ) → length live ≡ 3 → k < 3 → slice_index_or live k false ≡ true → level live ≡ suc (level (slice_set live k false))

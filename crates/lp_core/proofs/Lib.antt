@@ -11,8 +11,10 @@ pub mod Fits
 pub mod Halves
 pub mod Levels
 pub mod Lift
+pub mod Lines
 pub mod Narrow
 pub mod Smaller
 pub mod Steps
 pub mod Sums
+pub mod Views
 pub mod Wholes

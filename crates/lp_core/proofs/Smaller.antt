@@ -10,7 +10,7 @@ use Rattle.exact_algebra.proofs.Normal.{ring}
 use Rattle.exact_algebra.proofs.Order.{abs_product, abs_difference}
 use Rattle.lp_cert.specs.Program.{entry, axis}
 use Rattle.lp_core.specs.declared.reduced.Line.{Line}
-use Rattle.lp_core.specs.declared.reduced.Reduced.{Reduced}
+use Rattle.lp_core.specs.Reduced.{Reduced}
 use Rattle.lp_core.specs.declared.pivot.Pivot.{Pivot}
 use Rattle.lp_core.specs.Lines.{line_at, is_seen}
 use Rattle.lp_core.specs.Sizes.{level, entry_most, side_most, objective_most, AreAtMost, IsSmallLine}
@@ -25,11 +25,11 @@ use Rattle.lp_core.proofs.Sums.{factor_cases}
 -- row r of a program becomes an equation and eliminates a variable
 pub record IsStep (P : Reduced) (o : List ℤ) (r : ℕ) (p : Pivot) (Q : Reduced) (rest : List ℤ) : Type 0 where
   pub reduced : IsReduced P o
-  pub within : r < length P.lines.items
-  pub line : p.line ≡ line_at P.lines.items r
+  pub within : r < length P.lines
+  pub line : p.line ≡ line_at P.lines r
   pub live : Q.live ≡ slice_set P.live p.place false
-  pub count : length Q.lines.items ≡ min (length P.lines.items) (max r 6)
-  pub each : AreEliminated p P.lines.items P.live r Q.lines.items
+  pub count : length Q.lines ≡ min (length P.lines) (max r 6)
+  pub each : AreEliminated p P.lines P.live r Q.lines
   pub is_rest : IsRest p o rest
 
 both : (b : Bool) → b ≡ false → b ≡ true → ⊥
@@ -37,7 +37,7 @@ both true e f = grind (arith, e)
 both false e f = grind (arith, f)
 
 -- the variable of a pivot is live
-pub pivot_live : (P : Reduced) (o : List ℤ) (r : ℕ) (p : Pivot) → IsReduced P o → r < length P.lines.items → p.line ≡ line_at P.lines.items r → slice_index_or P.live p.place false ≡ true
+pub pivot_live : (P : Reduced) (o : List ℤ) (r : ℕ) (p : Pivot) → IsReduced P o → r < length P.lines → p.line ≡ line_at P.lines r → slice_index_or P.live p.place false ≡ true
 pivot_live P o r p q within line = by_case (slice_index_or P.live p.place false) refl
   where
     none : entry p.line.c p.place ≡ pos 0 → ⊥
@@ -54,7 +54,7 @@ module _ (P : Reduced) (o : List ℤ) (r : ℕ) (p : Pivot) (Q : Reduced) (rest 
   pub live_place : slice_index_or P.live p.place false ≡ true
   live_place = pivot_live P o r p s.reduced s.within s.line
 
-  pub box_place : HasBox P.lines.items p.place
+  pub box_place : HasBox P.lines p.place
   box_place = s.reduced.boxes p.place p.inside live_place
 
   pub source_seen : (l : ℕ) → is_seen P.live r (source_of p P.live r l) ≡ true
@@ -64,10 +64,10 @@ module _ (P : Reduced) (o : List ℤ) (r : ℕ) (p : Pivot) (Q : Reduced) (rest 
       by_case true e = e
       by_case false e = upper_seen P.live r p.place p.inside live_place
 
-  pub source_within : (l : ℕ) → l < length Q.lines.items → source_of p P.live r l < length P.lines.items
+  pub source_within : (l : ℕ) → l < length Q.lines → source_of p P.live r l < length P.lines
   source_within l h = by_case (is_seen P.live r l)
     where
-      by_case : (b : Bool) → cond b l (2 * p.place) < length P.lines.items
+      by_case : (b : Bool) → cond b l (2 * p.place) < length P.lines
       by_case true = omega (arith, h, s.count)
       by_case false = omega (arith, box_place.within)
 
@@ -75,16 +75,16 @@ module _ (P : Reduced) (o : List ℤ) (r : ℕ) (p : Pivot) (Q : Reduced) (rest 
   pub seen_source : (l : ℕ) → is_seen P.live r l ≡ true → source_of p P.live r l ≡ l
   seen_source l e = ap (λ b. cond b l (2 * p.place)) e
 
-  pub seen_within : (l : ℕ) → l < length P.lines.items → is_seen P.live r l ≡ true → l < length Q.lines.items
+  pub seen_within : (l : ℕ) → l < length P.lines → is_seen P.live r l ≡ true → l < length Q.lines
   seen_within l h e = by_case (seen_cases P.live r l e)
     where
-      by_case : (l < r) ⊎ ((k : ℕ) × (k < 3) × (slice_index_or P.live k false ≡ true) × ((l ≡ 2 * k) ⊎ (l ≡ 2 * k + 1))) → l < length Q.lines.items
+      by_case : (l < r) ⊎ ((k : ℕ) × (k < 3) × (slice_index_or P.live k false ≡ true) × ((l ≡ 2 * k) ⊎ (l ≡ 2 * k + 1))) → l < length Q.lines
       by_case (inl less) = omega (arith, less, h, s.count)
       by_case (inr (k, k3, live, inl f)) = omega (arith, k3, f, h, s.count)
       by_case (inr (k, k3, live, inr f)) = omega (arith, k3, f, h, s.count)
 
-  pub seen_eliminated : (l : ℕ) → l < length P.lines.items → is_seen P.live r l ≡ true → IsEliminated p (line_at P.lines.items l) (line_at Q.lines.items l)
-  seen_eliminated l h e = subst (λ i. IsEliminated p (line_at P.lines.items i) (line_at Q.lines.items l)) (seen_source l e) (s.each l (seen_within l h e))
+  pub seen_eliminated : (l : ℕ) → l < length P.lines → is_seen P.live r l ≡ true → IsEliminated p (line_at P.lines l) (line_at Q.lines l)
+  seen_eliminated l h e = subst (λ i. IsEliminated p (line_at P.lines i) (line_at Q.lines l)) (seen_source l e) (s.each l (seen_within l h e))
 
   -- ---- one variable less
   pub levels : level P.live ≡ suc (level Q.live)
@@ -97,8 +97,8 @@ module _ (P : Reduced) (o : List ℤ) (r : ℕ) (p : Pivot) (Q : Reduced) (rest 
   pub own_small : IsSmallLine (entry_most (suc (level Q.live))) (side_most (suc (level Q.live))) p.line
   own_small = subst (λ n. IsSmallLine (entry_most n) (side_most n) p.line) levels (subst (λ x. IsSmallLine (entry_most (level P.live)) (side_most (level P.live)) x) (sym s.line) (s.reduced.lines r s.within))
 
-  pub line_small : (l : ℕ) → l < length P.lines.items → IsSmallLine (entry_most (suc (level Q.live))) (side_most (suc (level Q.live))) (line_at P.lines.items l)
-  line_small l h = subst (λ n. IsSmallLine (entry_most n) (side_most n) (line_at P.lines.items l)) levels (s.reduced.lines l h)
+  pub line_small : (l : ℕ) → l < length P.lines → IsSmallLine (entry_most (suc (level Q.live))) (side_most (suc (level Q.live))) (line_at P.lines l)
+  line_small l h = subst (λ n. IsSmallLine (entry_most n) (side_most n) (line_at P.lines l)) levels (s.reduced.lines l h)
 
   pub objective_small : AreAtMost (objective_most (suc (level Q.live))) o
   objective_small = subst (λ n. AreAtMost (objective_most n) o) levels s.reduced.objective
@@ -109,12 +109,12 @@ module _ (P : Reduced) (o : List ℤ) (r : ℕ) (p : Pivot) (Q : Reduced) (rest 
   difference_small : (f x t y : ℤ) (a b d e : ℕ) → unsigned_abs f ≤ a → unsigned_abs x ≤ b → unsigned_abs t ≤ d → unsigned_abs y ≤ e → unsigned_abs (f *ℤ x -ℤ t *ℤ y) ≤ a * b + d * e
   difference_small f x t y a b d e h i j k = abs_difference (f *ℤ x) (t *ℤ y) (a * b) (d * e) (abs_product f x a b h i) (abs_product t y d e j k)
 
-  eliminated_small : (l : ℕ) → l < length Q.lines.items → IsSmallLine (entry_most (level Q.live)) (side_most (level Q.live)) (line_at Q.lines.items l)
+  eliminated_small : (l : ℕ) → l < length Q.lines → IsSmallLine (entry_most (level Q.live)) (side_most (level Q.live)) (line_at Q.lines l)
   eliminated_small l h =
       let n = level Q.live in
       let m = entry_most (suc n) in
-      let x = line_at P.lines.items (source_of p P.live r l) in
-      let y = line_at Q.lines.items l in
+      let x = line_at P.lines (source_of p P.live r l) in
+      let y = line_at Q.lines l in
       let e = s.each l h in
       let xs = line_small (source_of p P.live r l) (source_within l h) in
       let f = factor_small p x m (entry_some (suc n)) size_small in
@@ -162,22 +162,22 @@ module _ (P : Reduced) (o : List ℤ) (r : ℕ) (p : Pivot) (Q : Reduced) (rest 
   dead_before : (k : ℕ) → k ≢ p.place → slice_index_or Q.live k false ≡ false → slice_index_or P.live k false ≡ false
   dead_before k n e = sym (get_or-set_other P.live p.place k false false n) ∙ ap (λ (xs : List Bool). slice_index_or xs k false) (sym s.live) ∙ e
 
-  dead_after : (k : ℕ) → k < 3 → slice_index_or Q.live k false ≡ false → (entry rest k ≡ pos 0) × ((l : ℕ) → l < length Q.lines.items → entry (line_at Q.lines.items l).c k ≡ pos 0)
+  dead_after : (k : ℕ) → k < 3 → slice_index_or Q.live k false ≡ false → (entry rest k ≡ pos 0) × ((l : ℕ) → l < length Q.lines → entry (line_at Q.lines l).c k ≡ pos 0)
   dead_after k l3 e = by_case (nat_eq k p.place) refl
     where
-      by_case : (b : Bool) → nat_eq k p.place ≡ b → (entry rest k ≡ pos 0) × ((l : ℕ) → l < length Q.lines.items → entry (line_at Q.lines.items l).c k ≡ pos 0)
+      by_case : (b : Bool) → nat_eq k p.place ≡ b → (entry rest k ≡ pos 0) × ((l : ℕ) → l < length Q.lines → entry (line_at Q.lines l).c k ≡ pos 0)
       by_case true g =
           let m : k ≡ p.place = grind (arith, nat_tests) in (
             subst (λ i. entry rest i ≡ pos 0) (sym m) rest_gone,
-            λ l h. subst (λ i. entry (line_at Q.lines.items l).c i ≡ pos 0) (sym m) ((s.each l h).entries p.place p.inside ∙ gone (line_at P.lines.items (source_of p P.live r l))),
+            λ l h. subst (λ i. entry (line_at Q.lines l).c i ≡ pos 0) (sym m) ((s.each l h).entries p.place p.inside ∙ gone (line_at P.lines (source_of p P.live r l))),
           )
       by_case false g =
           let n : k ≢ p.place = grind (arith, nat_tests) in
           let d = s.reduced.dead k l3 (dead_before k n e) in
           let own : entry p.line.c k ≡ pos 0 = ap (λ (x : Line). entry x.c k) s.line ∙ d.1 r s.within in (
             no_difference p.size (entry o k) (p.sign *ℤ entry o p.place) (entry p.line.c k) (entry rest k) (s.is_rest k l3) d.0 own,
-            λ l h. let x = line_at P.lines.items (source_of p P.live r l) in
-                no_difference (factor_of p x) (entry x.c k) (p.sign *ℤ entry x.c p.place) (entry p.line.c k) (entry (line_at Q.lines.items l).c k) ((s.each l h).entries k l3) (d.1 (source_of p P.live r l) (source_within l h)) own,
+            λ l h. let x = line_at P.lines (source_of p P.live r l) in
+                no_difference (factor_of p x) (entry x.c k) (p.sign *ℤ entry x.c p.place) (entry p.line.c k) (entry (line_at Q.lines l).c k) ((s.each l h).entries k l3) (d.1 (source_of p P.live r l) (source_within l h)) own,
           )
 
   -- ---- boxes
@@ -187,10 +187,10 @@ module _ (P : Reduced) (o : List ℤ) (r : ℕ) (p : Pivot) (Q : Reduced) (rest 
       let n : k ≢ p.place = λ m. both (slice_index_or (slice_set P.live p.place false) k false) (ap (λ i. slice_index_or (slice_set P.live p.place false) i false) m ∙ get_or-set_same P.live p.place false false (omega (arith, s.reduced.three, p.inside))) f in
       (n, sym (get_or-set_other P.live p.place k false false n) ∙ f)
 
-  same_line : (l k : ℕ) (t : ℤ) → l < length P.lines.items → is_seen P.live r l ≡ true → (line_at P.lines.items l).c ≡ axis k t → k ≢ p.place → line_at Q.lines.items l ≡ line_at P.lines.items l
+  same_line : (l k : ℕ) (t : ℤ) → l < length P.lines → is_seen P.live r l ≡ true → (line_at P.lines l).c ≡ axis k t → k ≢ p.place → line_at Q.lines l ≡ line_at P.lines l
   same_line l k t h e c n = (seen_eliminated l h e).same (ap (λ v. entry v p.place) c ∙ axis_other k p.place t (λ m. n (sym m)))
 
-  boxes_after : (k : ℕ) → k < 3 → slice_index_or Q.live k false ≡ true → HasBox Q.lines.items k
+  boxes_after : (k : ℕ) → k < 3 → slice_index_or Q.live k false ≡ true → HasBox Q.lines k
   boxes_after k l3 e =
       let b = live_before k e in
       let box = s.reduced.boxes k l3 b.1 in
@@ -213,8 +213,8 @@ module _ (P : Reduced) (o : List ℤ) (r : ℕ) (p : Pivot) (Q : Reduced) (rest 
   }
 
 -- ---- sizes of rows
-pub small_lines : (P : Reduced) (o : List ℤ) → IsReduced P o → (l : ℕ) → l < length P.lines.items → IsSmallLine (2 ^ 10) (2 ^ 80) (line_at P.lines.items l)
-small_lines P o ok l within = line_fits (level P.live) (line_at P.lines.items l) (ok.lines l within)
+pub small_lines : (P : Reduced) (o : List ℤ) → IsReduced P o → (l : ℕ) → l < length P.lines → IsSmallLine (2 ^ 10) (2 ^ 80) (line_at P.lines l)
+small_lines P o ok l within = line_fits (level P.live) (line_at P.lines l) (ok.lines l within)
 
-pub small_line : (P : Reduced) (o : List ℤ) (r : ℕ) (x : Line) → IsReduced P o → r < length P.lines.items → x ≡ line_at P.lines.items r → IsSmallLine (2 ^ 10) (2 ^ 80) x
+pub small_line : (P : Reduced) (o : List ℤ) (r : ℕ) (x : Line) → IsReduced P o → r < length P.lines → x ≡ line_at P.lines r → IsSmallLine (2 ^ 10) (2 ^ 80) x
 small_line P o r x ok within from = subst (λ y. IsSmallLine (2 ^ 10) (2 ^ 80) y) (sym from) (small_lines P o ok r within)

@@ -1,5 +1,5 @@
 -- The steps of the functions that eliminate a variable and go back.
-use Rattle.std.proofs.Common.{◌≡◌, ◌≢◌, ℕ, zero, suc, ◌+◌, ◌*◌, ◌<◌, ◌≤◌, ◌^◌, List, [], ◌∷◌, ◌++◌, length, get_or, map, take, Some, refl, sym, ap, subst, ◌∙◌, arith, lit≤, below_more, ◌⊎◌, inl, inr}
+use Rattle.std.proofs.Common.{◌≡◌, ◌≢◌, ℕ, zero, suc, ◌+◌, ◌*◌, ◌<◌, ◌≤◌, ◌^◌, List, [], ◌∷◌, ◌++◌, length, get_or, map, take, Some, refl, sym, ap, subst, ◌∙◌, arith, lit<, lit≤, below_more, ◌⊎◌, inl, inr}
 use Rattle.std.specs.Prelude.{ℤ, pos, ◌+ℤ◌, ◌-ℤ◌, ◌*ℤ◌, cond, slice_get}
 use Rattle.exact_algebra.specs.Normal.{is_nought}
 use Rattle.std.specs.Int.RustNames.{unsigned_abs}
@@ -15,6 +15,7 @@ use Rattle.lp_core.specs.Lines.{along, line_at}
 use Rattle.lp_core.specs.Sizes.{AreAtMost, IsSmallLine}
 use Rattle.lp_core.specs.Elimination.{IsEliminated, IsLifted, factor_of, way}
 use Rattle.lp_core.proofs.Along.{abs_along}
+use Rattle.lp_core.proofs.Fits.{at_place, pivot_small, sign_times}
 use Rattle.lp_core.proofs.Sums.{factor_cases}
 
 -- a row without the variable stays as it is
@@ -49,6 +50,20 @@ factor_small p x m l h = by_case (factor_of p x) (factor_cases p x)
     by_case : (f : ℤ) → (f ≡ p.size) ⊎ ((f ≡ pos 1) × (entry x.c p.place ≡ pos 0)) → unsigned_abs f ≤ m
     by_case f (inl e) = subst (λ z. unsigned_abs z ≤ m) (sym e) h
     by_case f (inr e) = subst (λ z. unsigned_abs z ≤ m) (sym e.0) l
+
+-- the size of a row without the variable
+pub eliminated_small : (p : Pivot) (x y : Line) (m h : ℕ) → 1 ≤ m → IsSmallLine m h p.line → IsSmallLine m h x → IsEliminated p x y → IsSmallLine (m * m + m * m) (m * h + m * h) y
+eliminated_small p x y m h some own small e =
+    let f = factor_small p x m some (pivot_small p m h own) in
+    let t = sign_times p (entry x.c p.place) m (at_place m p.place x.c p.inside small.entries) in
+    let within : (a b c d i : ℤ) (n : ℕ) → i ≡ a *ℤ b -ℤ c *ℤ d → unsigned_abs a ≤ m → unsigned_abs b ≤ n → unsigned_abs c ≤ m → unsigned_abs d ≤ n → unsigned_abs i ≤ m * n + m * n =
+    λ a b c d i n is g l u v. subst (λ z. unsigned_abs z ≤ m * n + m * n) (sym is) (abs_difference (a *ℤ b) (c *ℤ d) (m * n) (m * n) (abs_product a b m n g l) (abs_product c d m n u v)) in
+    let part : (k : ℕ) → k < 3 → unsigned_abs (entry y.c k) ≤ m * m + m * m =
+    λ k l. within (factor_of p x) (entry x.c k) (p.sign *ℤ entry x.c p.place) (entry p.line.c k) (entry y.c k) m (e.entries k l) f (at_place m k x.c l small.entries) t (at_place m k p.line.c l own.entries) in
+    record {
+      entries = record { first = part 0 (lit< tt); second = part 1 (lit< tt); third = part 2 (lit< tt) };
+      side = within (factor_of p x) x.h (p.sign *ℤ entry x.c p.place) p.line.h y.h h e.side f small.side t own.side;
+    }
 
 -- ---- the point
 pub way_is : (p : Pivot) (num : List ℤ) (den d a : ℤ) → a ≡ along p.line.c num → d ≡ den *ℤ p.line.h -ℤ pos 1 *ℤ a → p.sign *ℤ d ≡ way p num den

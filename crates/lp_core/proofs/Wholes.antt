@@ -10,7 +10,7 @@ use Rattle.exact_algebra.proofs.Sums.{total_by_same}
 use Rattle.lp_cert.specs.declared.rows.Row.{Row}
 use Rattle.lp_cert.specs.Program.{Program, IsProgram, IsRow, Meets, entry, entry_limit, row_at}
 use Rattle.lp_cert.specs.Certificate.{ProvesBound, ProvesEmpty, entry_sum, side_sum}
-use Rattle.lp_core.specs.declared.reduced.Reduced.{Reduced}
+use Rattle.lp_core.specs.Reduced.{Reduced}
 use Rattle.lp_core.specs.Lines.{along, line_at, line_sum, line_sides, all_seen, IsMet, IsDual}
 use Rattle.lp_core.specs.Sizes.{one_if, level, entry_most, side_most, objective_most, AreAtMost, IsSmallLine}
 use Rattle.lp_core.specs.Search.{IsReduced}
@@ -76,7 +76,7 @@ whole_is_reduced p q o h w three small zeros =
     record {
       three = w.three;
       few = omega (arith, w.count, h.room);
-      lines = λ l lt. subst (λ n. IsSmallLine (entry_most n) (side_most n) (line_at q.lines.items l)) (sym d) (line l (omega (arith, lt, w.count)));
+      lines = λ l lt. subst (λ n. IsSmallLine (entry_most n) (side_most n) (line_at q.lines l)) (sym d) (line l (omega (arith, lt, w.count)));
       objective = subst (λ n. AreAtMost (objective_most n) o) (sym d) (record {
         first = omega (arith, small 0 (pos 0) (omega (arith, three)), objective_limit p.dimension);
         second = omega (arith, small 1 (pos 0) (omega (arith, three)), objective_limit p.dimension);
@@ -95,10 +95,10 @@ whole_is_reduced p q o h w three small zeros =
           };
     }
   where
-    line : (l : ℕ) → l < length p.rows → IsSmallLine (entry_most p.dimension) (side_most p.dimension) (line_at q.lines.items l)
+    line : (l : ℕ) → l < length p.rows → IsSmallLine (entry_most p.dimension) (side_most p.dimension) (line_at q.lines l)
     line l lt =
         let r = row_right p l h lt in
-        let part : (k : ℕ) → k < 3 → unsigned_abs (entry (line_at q.lines.items l).c k) ≤ entry_most p.dimension = λ k k3.
+        let part : (k : ℕ) → k < 3 → unsigned_abs (entry (line_at q.lines l).c k) ≤ entry_most p.dimension = λ k k3.
         subst (λ c. unsigned_abs (entry c k) ≤ entry_most p.dimension) (sym (w.entries l lt)) (omega (arith, r.entries k (pos 0) (omega (arith, k3, r.three)), limit_most p.dimension h.some h.few)) in
         record {
           entries = record { first = part 0 (lit< tt); second = part 1 (lit< tt); third = part 2 (lit< tt) };
@@ -107,30 +107,30 @@ whole_is_reduced p q o h w three small zeros =
 
 -- ---- the way out
 module _ (p : Program) (q : Reduced) (h : IsProgram p) (w : IsWhole p q) where
-  pub whole_meets : (num : List ℤ) (den : ℤ) → IsMet all_seen q.lines.items num den → Meets p (record { num = num; den = den })
+  pub whole_meets : (num : List ℤ) (den : ℤ) → IsMet all_seen q.lines num den → Meets p (record { num = num; den = den })
   whole_meets num den m = record {
     positive = m.positive;
     each = λ l d lt.
         let r = row_at p l in
         let same : r ≡ get_or p.rows l d = get_or_default p.rows l (record { c = []; h = pos 0 }) d lt in
-        let met : along r.c num ≤ℤ (r.h *ℤ den) = subst (λ c. along c num ≤ℤ (r.h *ℤ den)) (w.entries l lt) (subst (λ z. along (line_at q.lines.items l).c num ≤ℤ (z *ℤ den)) (w.sides l lt) (m.each l (omega (arith, lt, w.count)) refl)) in
+        let met : along r.c num ≤ℤ (r.h *ℤ den) = subst (λ c. along c num ≤ℤ (r.h *ℤ den)) (w.entries l lt) (subst (λ z. along (line_at q.lines l).c num ≤ℤ (z *ℤ den)) (w.sides l lt) (m.each l (omega (arith, lt, w.count)) refl)) in
         subst (λ (x : Row). dot x.c num ≤ℤ (x.h *ℤ den)) same (subst (λ z. z ≤ℤ (r.h *ℤ den)) (sym (along_dot r.c num (row_right p l h lt).three)) met);
   }
 
-  whole_rows : (items : List (ℕ × ℤ)) → All (λ item. item.0 < length q.lines.items) items → All (λ item. item.0 < length p.rows) items
+  whole_rows : (items : List (ℕ × ℤ)) → All (λ item. item.0 < length q.lines) items → All (λ item. item.0 < length p.rows) items
   whole_rows items a = λ k d l. omega (arith, a k d l, w.count)
 
-  whole_entries : (items : List (ℕ × ℤ)) (k : ℕ) → All (λ item. item.0 < length p.rows) items → entry_sum p items k ≡ line_sum q.lines.items k items
+  whole_entries : (items : List (ℕ × ℤ)) (k : ℕ) → All (λ item. item.0 < length p.rows) items → entry_sum p items k ≡ line_sum q.lines k items
   whole_entries items k a =
-      total_by_same (λ item. item.1 *ℤ entry (row_at p item.0).c k) (λ item. item.1 *ℤ entry (line_at q.lines.items item.0).c k) items
+      total_by_same (λ item. item.1 *ℤ entry (row_at p item.0).c k) (λ item. item.1 *ℤ entry (line_at q.lines item.0).c k) items
       (λ i d l. ap (λ c. (get_or items i d).1 *ℤ entry c k) (sym (w.entries (get_or items i d).0 (a i d l))))
 
-  whole_sides : (items : List (ℕ × ℤ)) → All (λ item. item.0 < length p.rows) items → side_sum p items ≡ line_sides q.lines.items items
+  whole_sides : (items : List (ℕ × ℤ)) → All (λ item. item.0 < length p.rows) items → side_sum p items ≡ line_sides q.lines items
   whole_sides items a =
-      total_by_same (λ item. item.1 *ℤ (row_at p item.0).h) (λ item. item.1 *ℤ (line_at q.lines.items item.0).h) items
+      total_by_same (λ item. item.1 *ℤ (row_at p item.0).h) (λ item. item.1 *ℤ (line_at q.lines item.0).h) items
       (λ i d l. ap (λ z. (get_or items i d).1 *ℤ z) (sym (w.sides (get_or items i d).0 (a i d l))))
 
-  pub whole_bound : (o : List ℤ) (items : List (ℕ × ℤ)) (side den : ℤ) → pos 0 <ℤ den → IsDual all_seen q.lines.items o items side den → ProvesBound p o items side den
+  pub whole_bound : (o : List ℤ) (items : List (ℕ × ℤ)) (side den : ℤ) → pos 0 <ℤ den → IsDual all_seen q.lines o items side den → ProvesBound p o items side den
   whole_bound o items side den positive d =
       let rows = whole_rows items d.rows in
       record {
@@ -140,7 +140,7 @@ module _ (p : Program) (q : Reduced) (h : IsProgram p) (w : IsWhole p q) where
         side = subst (λ z. z ≤ℤ side) (sym (whole_sides items rows)) d.sides;
       }
 
-  pub whole_none : (items : List (ℕ × ℤ)) → IsDual all_seen q.lines.items [] items (negsuc 0) (pos 0) → ProvesEmpty p items
+  pub whole_none : (items : List (ℕ × ℤ)) → IsDual all_seen q.lines [] items (negsuc 0) (pos 0) → ProvesEmpty p items
   whole_none items d =
       let rows = whole_rows items d.rows in
       record {

@@ -1,9 +1,14 @@
 pub mod Answer
+pub mod Bounds
 pub mod Corner
 pub mod Elimination
 pub mod Kept
 pub mod Lines
 pub mod Planar
+pub mod Reduced
 pub mod Search
 pub mod Sizes
+pub mod Smaller
+pub mod View
 pub mod Whole
+pub mod Wide

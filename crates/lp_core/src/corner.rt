@@ -6,8 +6,9 @@ ghost use Rattle.lp_core.specs.Search.{HasBox, IsOutcome, IsReduced};
 ghost use Rattle.std.specs.Int.RustNames.{unsigned_abs};
 ghost use Rattle.std.specs.Prelude.{[], ◌*◌, ◌+ℤ◌, ◌+◌, ◌<ℤ◌, ◌<◌, ◌^◌, ◌∷◌, ◌≡◌, ◌≤◌, MatchOption, length, pos};
 
-use crate::reduced::{Optimum, Reduced};
+use crate::reduced::Optimum;
 use crate::search::Outcome;
+use crate::view::View;
 use lp_cert::Multipliers;
 
 /// The best end of a variable's box, and the multiplier of its row.
@@ -19,13 +20,13 @@ struct End {
 }
 
 /// The end of a variable's box that is best for its coefficient in the objective, if the box isn't empty.
-fn end_of(program: &Reduced, k: u32, times: i128) -> Option<End>
+fn end_of(program: &View, k: u32, times: i128) -> Option<End>
     requires place { k < 3 }
-    requires within { 2 * k + 1 < length program.now.lines.items }
-    requires upper { unsigned_abs (upper_side program.now.lines.items k) ≤ 2 ^ 80 }
-    requires lower { unsigned_abs (lower_side program.now.lines.items k) ≤ 2 ^ 80 }
+    requires within { 2 * k + 1 < length program.now.lines }
+    requires upper { unsigned_abs (upper_side program.now.lines k) ≤ 2 ^ 80 }
+    requires lower { unsigned_abs (lower_side program.now.lines k) ≤ 2 ^ 80 }
     requires times { unsigned_abs times ≤ 2 ^ 21 }
-    ensures { MatchOption result ((upper_side program.now.lines.items k +ℤ lower_side program.now.lines.items k) <ℤ pos 0) (IsEnd program.now.lines.items k times) }
+    ensures { MatchOption result ((upper_side program.now.lines k +ℤ lower_side program.now.lines k) <ℤ pos 0) (IsEnd program.now.lines k times) }
 {
     let upper = program.line(2 * k).h;
     let lower = program.line(2 * k + 1).h;
@@ -58,14 +59,15 @@ fn empty_box(k: u32) -> Multipliers
 }
 
 /// The best corner of the box of the variables that are live, with its dual.
-pub fn corner(program: &Reduced, objective: [i128; 3]) -> Outcome
+pub fn corner(program: &View, objective: [i128; 3]) -> Outcome
     requires { IsReduced program.now objective }
     ensures { IsOutcome (is_seen program.now.live 0) program.now objective result }
 {
+    let live = program.live();
     let mut num = [0; 3];
     let mut items = Multipliers::new();
     for k in 0..3u32 {
-        if program.live[k as usize] {
+        if live[k as usize] {
             let Some(end) = end_of(program, k, objective[k as usize]) else {
                 return Outcome::Infeasible(empty_box(k));
             };

@@ -3,14 +3,15 @@
 ghost use Rattle.lp_cert.specs.Program.{entry};
 ghost use Rattle.lp_core.specs.Elimination.{AreEliminated, IsEliminated, IsLifted, IsRest, factor_of, source_of, way, with_pivot};
 ghost use Rattle.lp_core.specs.Lines.{along, is_seen, line_at};
+ghost use Rattle.lp_core.specs.Smaller.{rest_of};
 ghost use Rattle.lp_core.specs.Sizes.{AreAtMost, AreFew, IsSmallLine};
 ghost use Rattle.exact_algebra.specs.Sums.{total_by};
 ghost use Rattle.std.specs.Int.RustNames.{unsigned_abs};
 ghost use Rattle.std.specs.Prelude.{ℕ, [], ◌*ℤ◌, ◌*◌, ◌++◌, ◌+ℤ◌, ◌-ℤ◌, ◌<◌, ◌^◌, ◌∷◌, ◌≡◌, ◌≢◌, ◌≤◌, All, MatchOption, false, length, map, max, min, pos, slice_set};
 
 use crate::pivot::Pivot;
-use crate::reduced::{Line, Reduced, is_seen, product};
-use arrayvec::ArrayVec;
+use crate::reduced::{Line, product};
+use crate::view::View;
 use lp_cert::Multipliers;
 
 /// The first variable of a row, if it has any.
@@ -51,6 +52,19 @@ fn difference(factor: i128, a: i128, times: i128, b: i128) -> i128
     factor * a - times * b
 }
 
+/// A multiple less another, of numbers that fit 64 bits.
+fn small_difference(factor: i128, a: i128, times: i128, b: i128) -> i128
+    requires factor { unsigned_abs factor ≤ 2 ^ 10 }
+    requires left { unsigned_abs a ≤ 2 ^ 21 }
+    requires times { unsigned_abs times ≤ 2 ^ 21 }
+    requires right { unsigned_abs b ≤ 2 ^ 10 }
+    ensures { result ≡ factor *ℤ a -ℤ times *ℤ b }
+{
+    let kept = factor as i64 * a as i64;
+    let gone = times as i64 * b as i64;
+    (kept - gone) as i128
+}
+
 /// A multiple of a vector less a multiple of another.
 fn combined(factor: i128, a: [i128; 3], times: i128, b: [i128; 3]) -> [i128; 3]
     requires factor { unsigned_abs factor ≤ 2 ^ 10 }
@@ -60,9 +74,9 @@ fn combined(factor: i128, a: [i128; 3], times: i128, b: [i128; 3]) -> [i128; 3]
     ensures { (k : ℕ) → k < 3 → entry result k ≡ factor *ℤ entry a k -ℤ times *ℤ entry b k }
 {
     [
-        difference(factor, a[0], times, b[0]),
-        difference(factor, a[1], times, b[1]),
-        difference(factor, a[2], times, b[2]),
+        small_difference(factor, a[0], times, b[0]),
+        small_difference(factor, a[1], times, b[1]),
+        small_difference(factor, a[2], times, b[2]),
     ]
 }
 
@@ -98,7 +112,7 @@ impl Pivot {
     }
 
     /// A row without the variable.
-    fn eliminated(&self, line: Line) -> Line
+    pub fn eliminated(&self, line: Line) -> Line
         requires own { IsSmallLine (2 ^ 10) (2 ^ 80) self.now.line }
         requires small { IsSmallLine (2 ^ 10) (2 ^ 80) line }
         ensures { IsEliminated self.now line result }
@@ -117,7 +131,7 @@ impl Pivot {
     pub fn rest(&self, objective: [i128; 3]) -> [i128; 3]
         requires own { IsSmallLine (2 ^ 10) (2 ^ 80) self.now.line }
         requires small { AreAtMost (2 ^ 21) objective }
-        ensures { IsRest self.now objective result }
+        ensures { result ≡ rest_of self.now objective }
     {
         combined(
             self.size,
@@ -129,37 +143,14 @@ impl Pivot {
 
     /// The number of the row that stands at place `l` of the smaller program. One that hasn't been seen is stood in for by
     /// the box of the eliminated variable.
-    fn source(&self, live: [bool; 3], r: u32, l: u32) -> u32
-        ensures { result ≡ source_of self.now live r l }
+    fn source(&self, program: &View, r: u32, l: u32) -> u32
+        ensures { result ≡ source_of self.now program.now.live r l }
     {
-        if is_seen(live, r, l) {
+        if program.is_seen(r, l) {
             l
         } else {
             2 * self.place as u32
         }
-    }
-
-    /// The program without the variable, of the rows that have been seen.
-    pub fn reduced(&self, program: &Reduced, r: u32) -> Reduced
-        requires own { IsSmallLine (2 ^ 10) (2 ^ 80) self.now.line }
-        requires small { (l : ℕ) → l < length program.now.lines.items → IsSmallLine (2 ^ 10) (2 ^ 80) (line_at program.now.lines.items l) }
-        requires few { length program.now.lines.items ≤ 40 }
-        requires pivot { 2 * self.now.place < length program.now.lines.items }
-        ensures live { result.live ≡ slice_set program.now.live self.now.place false }
-        ensures length { length result.lines.items ≡ min (length program.now.lines.items) (max r 6) }
-        ensures lines { AreEliminated self.now program.now.lines.items program.now.live r result.lines.items }
-    {
-        let mut live = program.live;
-        live[self.place] = false;
-        let mut smaller = Reduced {
-            live,
-            lines: ArrayVec::new(),
-        };
-        for l in 0..program.lines.len().min((r as usize).max(6)) {
-            let source = self.source(program.live, r, l as u32);
-            smaller.lines.push(self.eliminated(program.line(source)));
-        }
-        smaller
     }
 
     /// How far the point of the plane is from a multiple of the point of the smaller program, along the axis of the variable.
@@ -207,24 +198,24 @@ impl Pivot {
     /// its size.
     pub fn lifted_items(
         &self,
-        program: &Reduced,
+        program: &View,
         r: u32,
         items: &Multipliers,
         wanted: i128,
     ) -> Multipliers
         requires few { length items.now ≤ 3 }
         requires small { All (λ item. unsigned_abs item.1 ≤ 2 ^ 20) items.now }
-        requires rows { All (λ item. source_of self.now program.now.live r item.0 < length program.now.lines.items) items.now }
-        requires lines { (l : ℕ) → l < length program.now.lines.items → IsSmallLine (2 ^ 10) (2 ^ 80) (line_at program.now.lines.items l) }
+        requires rows { All (λ item. source_of self.now program.now.live r item.0 < length program.now.lines) items.now }
+        requires lines { (l : ℕ) → l < length program.now.lines → IsSmallLine (2 ^ 10) (2 ^ 80) (line_at program.now.lines l) }
         requires size { unsigned_abs self.now.size ≤ 2 ^ 10 }
         requires wanted { unsigned_abs wanted ≤ 2 ^ 40 }
-        ensures { result ≡ with_pivot self.now program.now.lines.items program.now.live r wanted items.now }
+        ensures { result ≡ with_pivot self.now program.now.lines program.now.live r wanted items.now }
     {
         let mut lifted = Multipliers::new();
         let mut sum = 0;
         for i in 0..items.len() {
             let (l, times) = *items.get(i);
-            let source = self.source(program.live, r, l);
+            let source = self.source(program, r, l);
             let line = program.line(source);
             lifted.push((source, self.lifted_times(line, times)));
             sum += self.weighed(line, times);

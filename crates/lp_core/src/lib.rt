@@ -4,7 +4,9 @@
 ghost use Rattle.lp_cert.specs.Program.{IsProgram, Meets, entry};
 ghost use Rattle.lp_cert.specs.Program.{Point as FractionVector};
 ghost use Rattle.lp_core.specs.Answer.{IfBest, IfInfeasible, IsBestPoint, IsInfeasible, IsProof};
+ghost use Rattle.lp_core.specs.Kept.{is_kept};
 ghost use Rattle.lp_core.specs.Lines.{all_seen};
+ghost use Rattle.std.specs.List.{filter};
 ghost use Rattle.lp_core.specs.Planar.{whole_of};
 ghost use Rattle.lp_core.specs.Search.{IsOutcome};
 ghost use Rattle.std.specs.Int.RustNames.{unsigned_abs};
@@ -14,15 +16,18 @@ mod corner;
 mod edge;
 mod elimination;
 mod kept;
+mod limits;
 mod pivot;
 mod planar;
 mod reduced;
 mod search;
 #[cfg(test)]
 mod tests;
+mod view;
+mod wide;
 
-use lp_cert::{Dual, Farkas, Rows};
-use reduced::{Line, Reduced};
+use lp_cert::{Dual, Farkas, Multipliers, Rows};
+use reduced::Line;
 use search::Outcome;
 
 /// A vector of fractions `num[i] / den`, with a positive denominator.
@@ -47,7 +52,7 @@ pub enum LpAnswer {
     },
 }
 
-/// What a program comes to, by the walk in 64 bits if it can be taken, or else by the search in all variables.
+/// What a program comes to: by the walk in two variables, or else by the search in all of them.
 fn outcome(rows: &Rows, objective: [i32; 3]) -> Outcome
     requires objective { All (λ x. unsigned_abs x ≤ 4096) objective }
     requires zeros { (k : ℕ) → rows.now.dimension ≤ k → entry objective k ≡ pos 0 }
@@ -55,11 +60,20 @@ fn outcome(rows: &Rows, objective: [i32; 3]) -> Outcome
     ensures program { IsProgram rows.now }
 {
     if rows.dimension() == 2 {
-        if let Some(outcome) = planar::walk(rows, objective) {
-            return outcome;
-        }
+        planar::walk(rows, objective)
+    } else {
+        search::searched(rows, objective)
     }
-    search::solved(&reduced::whole(rows), reduced::widened(objective))
+}
+
+/// The multipliers that add something, as a certificate. It is kept apart from the programs that have an optimum.
+#[inline(never)]
+fn certificate(items: Multipliers) -> Farkas
+    ensures { result.items ≡ filter is_kept items }
+{
+    Farkas {
+        items: kept::without_zeros(&items),
+    }
 }
 
 /// The greatest value of the objective over the points that meet the rows, or a proof that there is none.
@@ -91,9 +105,7 @@ pub fn solve(rows: &Rows, objective: [i32; 3]) -> LpAnswer
             }
         }
         Outcome::Infeasible(items) => LpAnswer::Infeasible {
-            farkas: Farkas {
-                items: kept::without_zeros(&items),
-            },
+            farkas: certificate(items),
         },
     }
 }

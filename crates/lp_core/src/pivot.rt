@@ -16,3 +16,10 @@ pub struct Pivot {
     ghost small_sign: { unsigned_abs sign ≤ 1 },
     ghost is_size: { sign *ℤ slice_index_or line.c place (pos 0) ≡ size },
 }
+
+/// A row that has become an equation and its number: it eliminates a variable from the rows before it.
+#[derive(Clone, Copy)]
+pub struct Step {
+    pub pivot: Pivot,
+    pub r: u32,
+}

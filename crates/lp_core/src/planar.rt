@@ -5,14 +5,15 @@ ghost use Rattle.lp_cert.specs.Program.{IsProgram, entry};
 ghost use Rattle.lp_core.specs.Corner.{IsEnd};
 ghost use Rattle.lp_core.specs.Elimination.{factor_of};
 ghost use Rattle.lp_core.specs.Lines.{all_seen, along, is_seen, line_at};
-ghost use Rattle.lp_core.specs.Planar.{AreEnds, AreNarrow, IsApart, IsCut, IsMissed, IsSpot, IsTighter, IsTip, end_of, farkas_of, half_line, left_entry, left_objective, left_side, lines_of, optimum_of, pivot_of, spot_num, whole_of};
+ghost use Rattle.lp_core.specs.Bounds.{IsApart, IsBoxRow, IsCutByRow, IsMissed, IsMissedRow, IsPeak, IsTighter, left_entry, left_objective, left_side};
+ghost use Rattle.lp_core.specs.Planar.{AreEnds, AreNarrow, IsCutBy, IsSpot, end_of, farkas_of, half_line, limit_of, lines_of, optimum_of, peak_of, pivot_of, reach_of, spot_num, whole_of};
 ghost use Rattle.lp_core.specs.Search.{IsBest, IsEmpty, IsOutcome};
 ghost use Rattle.std.specs.Int.RustNames.{unsigned_abs};
 ghost use Rattle.std.specs.Prelude.{[], ℕ, ◌*ℤ◌, ◌*◌, ◌+ℤ◌, ◌+◌, ◌-ℤ◌, ◌-◌, ◌<ℤ◌, ◌<◌, ◌^◌, ◌↔◌, ◌∷◌, ◌≡◌, ◌≢◌, ◌≤ℤ◌, ◌≤◌, All, IfSome, IsTrue, MatchOption, MatchResult, cond, length, pos, slice_index_or};
 
 use crate::edge::{Bound, BoxEnd, Cut, Edge, Ends, Half, Spot, Tip};
 use crate::reduced::Optimum;
-use crate::search::{Outcome, only};
+use crate::search::{Outcome, only, searched};
 use lp_cert::{Multipliers, Rows};
 
 /// The greatest side that is taken here.
@@ -131,7 +132,7 @@ fn edge_of(row: Half) -> Option<Edge>
 
 /// The less of two bounds.
 fn tighter(old: Bound, new: Bound) -> Bound
-    ensures { IsTighter old new result }
+    ensures { IsTighter (limit_of old) (limit_of new) (limit_of result) }
 {
     if multiple(old.entry, new.side) < multiple(new.entry, old.side) {
         new
@@ -143,7 +144,7 @@ fn tighter(old: Bound, new: Bound) -> Bound
 impl Ends {
     /// The bounds with that of one more row, if it leaves any point.
     fn cut(self, cut: Cut, l: u32) -> Option<Ends>
-        ensures { MatchOption result (IsMissed cut) (IsCut self cut l) }
+        ensures { MatchOption result (IsMissed cut.entry cut.side) (IsCutBy self cut l) }
     {
         if cut.entry > 0 {
             let new = Bound {
@@ -185,7 +186,7 @@ impl Ends {
     /// The end that is better for an objective.
     fn tip(&self, objective: i64) -> Tip
         requires { unsigned_abs objective ≤ 24576 }
-        ensures { IsTip self.now objective result }
+        ensures { IsPeak (reach_of self.now) objective (peak_of result) }
     {
         if objective < 0 {
             return Tip {
@@ -266,11 +267,11 @@ impl Edge {
     }
 
     /// The bounds that the box of the other variable makes.
-    fn box_ends(&self, rows: &Rows) -> Ends
+    fn other_ends(&self, rows: &Rows) -> Ends
         requires program { IsProgram rows.now }
         requires dimension { rows.now.dimension ≡ 2 }
         requires narrow { AreNarrow (lines_of rows.now) 4 }
-        ensures { AreEnds (lines_of rows.now) (pivot_of self.now) (1 - self.now.place) 0 4 result }
+        ensures { AreEnds (lines_of rows.now) (pivot_of self.now) (1 - self.now.place) (IsBoxRow (1 - self.now.place)) (λ l. l < 4) result }
     {
         let k = 1 - self.place as u32;
         let upper = known_at(rows, 2 * k);
@@ -289,6 +290,37 @@ impl Edge {
         }
     }
 
+    /// The bounds with that of one more row, or its number, if no point of the edge meets it.
+    fn with_row(&self, rows: &Rows, ends: Ends, l: u32) -> Result<Ends, u32>
+        requires dimension { rows.now.dimension ≡ 2 }
+        requires within { l < length rows.now.rows }
+        requires narrow { unsigned_abs (line_at (lines_of rows.now) l).h ≤ 2 ^ 51 }
+        ensures { MatchResult result (λ f. IsCutByRow (lines_of rows.now) (pivot_of self.now) (1 - self.now.place) (reach_of ends) l (reach_of f)) (λ m. (m ≡ l) × IsMissedRow (lines_of rows.now) (pivot_of self.now) (1 - self.now.place) l) }
+    {
+        match ends.cut(self.cut(known_at(rows, l)), l) {
+            Some(ends) => Ok(ends),
+            None => Err(l),
+        }
+    }
+
+    /// The bounds that the box makes, or one of its rows that no point of the edge meets.
+    fn box_ends(&self, rows: &Rows) -> Result<Ends, u32>
+        requires program { IsProgram rows.now }
+        requires dimension { rows.now.dimension ≡ 2 }
+        requires narrow { AreNarrow (lines_of rows.now) 4 }
+        ensures { MatchResult result (AreEnds (lines_of rows.now) (pivot_of self.now) (1 - self.now.place) (λ l. l < 4) (λ l. l < 4)) (IsApart (lines_of rows.now) (pivot_of self.now) (1 - self.now.place) (λ l. l < 4)) }
+    {
+        let own = 2 * self.place as u32;
+        let ends = match self.with_row(rows, self.other_ends(rows), own) {
+            Ok(ends) => ends,
+            Err(l) => return Err(l),
+        };
+        match self.with_row(rows, ends, own + 1) {
+            Ok(ends) => Ok(ends),
+            Err(l) => Err(l),
+        }
+    }
+
     /// The bounds that the first `r` rows make, or one of them that no point of the edge meets.
     fn ends(&self, rows: &Rows, r: u32) -> Result<Ends, u32>
         requires program { IsProgram rows.now }
@@ -296,14 +328,16 @@ impl Edge {
         requires within { r ≤ length rows.now.rows }
         requires boxes { 4 ≤ r }
         requires narrow { AreNarrow (lines_of rows.now) r }
-        ensures { MatchResult result (AreEnds (lines_of rows.now) (pivot_of self.now) (1 - self.now.place) r r) (IsApart (lines_of rows.now) (pivot_of self.now) (1 - self.now.place) r) }
+        ensures { MatchResult result (AreEnds (lines_of rows.now) (pivot_of self.now) (1 - self.now.place) (λ l. l < r) (λ l. l < r)) (IsApart (lines_of rows.now) (pivot_of self.now) (1 - self.now.place) (λ l. l < r)) }
     {
-        let mut ends = self.box_ends(rows);
-        for l in 0..r {
-            let cut = self.cut(known_at(rows, l));
-            ends = match ends.cut(cut, l) {
-                Some(ends) => ends,
-                None => return Err(l),
+        let mut ends = match self.box_ends(rows) {
+            Ok(ends) => ends,
+            Err(l) => return Err(l),
+        };
+        for l in 4..r {
+            ends = match self.with_row(rows, ends, l) {
+                Ok(ends) => ends,
+                Err(l) => return Err(l),
             };
         }
         Ok(ends)
@@ -485,24 +519,50 @@ fn off_edge(rows: &Rows, objective: [i32; 3], r: u32, row: Half, old: &Spot) -> 
     None
 }
 
-/// What a program of two variables comes to, if its sides are small and its box isn't empty.
-pub fn walk(rows: &Rows, objective: [i32; 3]) -> Option<Outcome>
+/// What a program comes to if the edge of a row that the optimum so far breaks has no optimum.
+#[inline(never)]
+fn off(rows: &Rows, objective: [i32; 3], r: u32, row: Half, old: &Spot) -> Outcome
     requires program { IsProgram rows.now }
     requires dimension { rows.now.dimension ≡ 2 }
     requires objective { All (λ x. unsigned_abs x ≤ 4096) objective }
     requires zeros { (k : ℕ) → rows.now.dimension ≤ k → entry objective k ≡ pos 0 }
-    ensures { IfSome result (IsOutcome all_seen (whole_of rows.now) objective) }
+    requires within { r < length rows.now.rows }
+    requires boxes { 4 ≤ r }
+    requires narrow { AreNarrow (lines_of rows.now) r }
+    requires row { half_line row ≡ line_at (lines_of rows.now) r }
+    requires best { IsBest (is_seen (whole_of rows.now).live r) (whole_of rows.now) objective (optimum_of old.now) }
+    requires broken { ((half_line row).h *ℤ old.now.den) <ℤ along (half_line row).c (spot_num old.now) }
+    ensures { IsOutcome all_seen (whole_of rows.now) objective result }
 {
-    let mut spot = corner(rows, objective)?;
+    match off_edge(rows, objective, r, row, old) {
+        Some(items) => Outcome::Infeasible(items),
+        None => searched(rows, objective),
+    }
+}
+
+/// What a program of two variables comes to. Where a side is too large for 64 bits or the box is empty, the search in 128 bits
+/// says it.
+pub fn walk(rows: &Rows, objective: [i32; 3]) -> Outcome
+    requires program { IsProgram rows.now }
+    requires dimension { rows.now.dimension ≡ 2 }
+    requires objective { All (λ x. unsigned_abs x ≤ 4096) objective }
+    requires zeros { (k : ℕ) → rows.now.dimension ≤ k → entry objective k ≡ pos 0 }
+    ensures { IsOutcome all_seen (whole_of rows.now) objective result }
+{
+    let Some(corner) = corner(rows, objective) else {
+        return searched(rows, objective);
+    };
+    let mut spot = corner;
     for r in 4..rows.len() {
-        let row = half_at(rows, r)?;
+        let Some(row) = half_at(rows, r) else {
+            return searched(rows, objective);
+        };
         if !spot.meets(row) {
             let Some(next) = on_edge(rows, objective, r, row, &spot) else {
-                let items = off_edge(rows, objective, r, row, &spot)?;
-                return Some(Outcome::Infeasible(items));
+                return off(rows, objective, r, row, &spot);
             };
             spot = next;
         }
     }
-    Some(Outcome::Best(spot.optimum()))
+    Outcome::Best(spot.optimum())
 }

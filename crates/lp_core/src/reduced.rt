@@ -8,8 +8,7 @@ ghost use Rattle.lp_core.specs.Whole.{IsWhole};
 ghost use Rattle.std.specs.Int.RustNames.{unsigned_abs};
 ghost use Rattle.std.specs.Prelude.{[], ℕ, ◌∷◌, ◌*ℤ◌, ◌<◌, ◌^◌, ◌↔◌, ◌≡◌, ◌≤ℤ◌, ◌≤◌, All, IsTrue, length, pos};
 
-use arrayvec::ArrayVec;
-use lp_cert::{Multipliers, Rows};
+use lp_cert::Multipliers;
 
 /// The inequality `c*y <= h`, where eliminations may have made the entries larger.
 #[derive(Clone, Copy)]
@@ -23,23 +22,6 @@ impl Default for Line {
         ensures { result ≡ record { c = pos 0 ∷ pos 0 ∷ pos 0 ∷ []; h = pos 0 } }
     {
         Line { c: [0; 3], h: 0 }
-    }
-}
-
-/// Rows in the variables that are live. The entries of the others are 0. Each live variable has its box at its old place.
-#[derive(Drop)]
-pub struct Reduced {
-    pub live: [bool; 3],
-    pub lines: ArrayVec<Line, 40>,
-}
-
-impl Reduced {
-    /// The row of number `l`.
-    pub fn line(&self, l: u32) -> Line
-        requires { l < length self.now.lines.items }
-        ensures { result ≡ line_at self.now.lines.items l }
-    {
-        self.lines[l as usize]
     }
 }
 
@@ -70,13 +52,6 @@ pub fn meets(line: Line, num: [i128; 3], den: i128) -> bool
     product(line.c, num) <= line.h * den
 }
 
-/// Whether the row of number `l` is one of the first `r`, or of the box of a live variable.
-pub fn is_seen(live: [bool; 3], r: u32, l: u32) -> bool
-    ensures { result ≡ is_seen live r l }
-{
-    l < r || l < 6 && live[l as usize / 2]
-}
-
 /// A vector in wider numbers.
 pub fn widened(c: [i32; 3]) -> [i128; 3]
     requires three { length c ≡ 3 }
@@ -84,22 +59,4 @@ pub fn widened(c: [i32; 3]) -> [i128; 3]
     ensures { result ≡ c }
 {
     [c[0] as i128, c[1] as i128, c[2] as i128]
-}
-
-/// The whole program.
-pub fn whole(rows: &Rows) -> Reduced
-    ensures whole { IsWhole rows.now result }
-    ensures program { IsProgram rows.now }
-{
-    let dimension = rows.dimension();
-    let mut program = Reduced {
-        live: [dimension > 0, dimension > 1, dimension > 2],
-        lines: ArrayVec::new(),
-    };
-    for l in 0..rows.len() {
-        let row = rows.row(l);
-        let c = widened(row.c);
-        program.lines.push(Line { c, h: row.h });
-    }
-    program
 }

@@ -221,6 +221,23 @@ fn programs_in_two_variables(rt: HostRuntime) {
         has_value(&solve(&large, [4096, 4096, 0]), Some((4096 * LARGE, 3))),
         "the largest sides"
     );
+    large.add(row_of([-1, 2, 0], LARGE));
+    assert!(rt;
+        has_value(&solve(&large, [0, 1, 0]), Some((4 * LARGE, 9))),
+        "two rows that cut the largest box"
+    );
+    large.add(row_of([0, -1, 0], -LARGE));
+    assert!(rt;
+        has_value(&solve(&large, [1, 0, 0]), None),
+        "rows that cross in the largest box"
+    );
+    large.reset(&[3, 5], &[0, -6]);
+    assert!(rt; has_value(&solve(&large, [1, 1, 0]), None), "an empty box");
+    large.reset(&[3, 5], &[0, 0]);
+    assert!(rt;
+        has_value(&solve(&large, [1, 1, 0]), Some((8, 1))),
+        "rows that were filled again"
+    );
 }
 
 #[test]

@@ -61,9 +61,9 @@ returns-in-Best-clause-infeasible c = (
 
 pub returns-in-Infeasible-clause-farkas : goal.returns-in-Infeasible-clause-farkas
 returns-in-Infeasible-clause-farkas c = record {
-  proves = subst (λ xs. ProvesEmpty c.args.rows.now xs) (sym c.without_zeros-in-Infeasible.ensures) (kept_empty c.args.rows.now c.in-Infeasible.items (whole_none c.args.rows.now (whole_of c.args.rows.now) c.outcome.ensures.program (whole_is c.args.rows.now) c.in-Infeasible.items c.in-Infeasible.ensures.outcome.none));
-  small = subst (λ xs. AreSmall xs) (sym c.without_zeros-in-Infeasible.ensures) (kept_small c.in-Infeasible.items (items_fit _ _ c.in-Infeasible.items (farkas_bound (level (whole_of c.args.rows.now).live)) c.in-Infeasible.ensures.outcome.few));
-  positive = subst (λ xs. All (λ item. pos 0 <ℤ item.1) xs) (sym c.without_zeros-in-Infeasible.ensures) (all_positive c.in-Infeasible.items);
+  proves = subst (λ xs. ProvesEmpty c.args.rows.now xs) (sym c.certificate.ensures) (kept_empty c.args.rows.now c.in-Infeasible.items (whole_none c.args.rows.now (whole_of c.args.rows.now) c.outcome.ensures.program (whole_is c.args.rows.now) c.in-Infeasible.items c.in-Infeasible.ensures.outcome.none));
+  small = subst (λ xs. AreSmall xs) (sym c.certificate.ensures) (kept_small c.in-Infeasible.items (items_fit _ _ c.in-Infeasible.items (farkas_bound (level (whole_of c.args.rows.now).live)) c.in-Infeasible.ensures.outcome.few));
+  positive = subst (λ xs. All (λ item. pos 0 <ℤ item.1) xs) (sym c.certificate.ensures) (all_positive c.in-Infeasible.items);
 }
 
 pub returns-in-Infeasible-clause-infeasible : goal.returns-in-Infeasible-clause-infeasible

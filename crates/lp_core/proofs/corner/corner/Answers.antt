@@ -1,5 +1,5 @@
 use Rattle.std.proofs.Common.{◌≡◌, ◌+◌, ◌≤◌, ◌^◌, [], ◌∷◌, set, sym, subst, ◌∙◌, arith, lit<, rules}
-use Rattle.std.specs.Prelude.{pos}
+use Rattle.std.specs.Prelude.{pos, slice_index_or, true, false}
 use Rattle.std.specs.Int.{w128}
 use Rattle.std.specs.Int.RustNames.{FitsSigned, unsigned_abs}
 use Rattle.std.proofs.lemmas.Int.{to_z-of_z}
@@ -11,7 +11,7 @@ use Rattle.lp_core.proofs.Corners.{IsCornerTo, no_corner, corner_dead, corner_li
 use Rattle.lp_core.proofs.Fits.{fits, at_place}
 use Rattle.lp_core.proofs.Levels.{objective_bound, live_below_few}
 use Rattle.lp_core.proofs.corner.corner.Goals as goal
-use Rattle.lp_core.proofs.corner.corner.Goals.{then-program-k+in-Some, else-program-k}
+use Rattle.lp_core.proofs.corner.corner.Goals.{then-live-k+in-Some, else-live-k}
 
 pub loop-k-init : goal.loop-k-init
 loop-k-init c = subst (λ items. IsCornerTo 0 c.args.program.now c.args.objective (pos 0 ∷ pos 0 ∷ pos 0 ∷ []) items) (sym c.new-items.ensures) (no_corner c.args.program.now c.args.objective)
@@ -19,7 +19,7 @@ loop-k-init c = subst (λ items. IsCornerTo 0 c.args.program.now c.args.objectiv
 pub returns-in_default : goal.returns-in_default
 returns-in_default c =
     subst (λ items. IsEmpty c.args.program.now items) (sym c.empty_box.ensures)
-    (empty_box c.loop-k.k c.args.program.now c.args.objective c.loop-k-test.true c.requires c.if-program-k.true c.in_default.ensures)
+    (empty_box c.loop-k.k c.args.program.now c.args.objective c.loop-k-test.true c.requires (subst (λ xs. slice_index_or xs c.loop-k.k false ≡ true) c.live-live.ensures c.if-live-k.true) c.in_default.ensures)
 
 pub push-requires : goal.push-requires
 push-requires c = omega (arith, c.loop-k.invariant.few, live_below_few c.args.program.now.live c.loop-k.k, c.loop-k-test.true)
@@ -30,23 +30,23 @@ loop-k-preserved c =
     let o = c.args.objective in
     let k = c.loop-k.k in
     let n = level p.live in
-    elim c.if-program-k.branch [
-      | then-program-k+in-Some w ↦
+    elim c.if-live-k.branch [
+      | then-live-k+in-Some w ↦
           let e = w.in-Some.end in
           let at_fits : FitsSigned w128 w.in-Some.end.at = search rules in
           let times_fits : FitsSigned w128 w.in-Some.end.times = search rules in
           let small : unsigned_abs (entry c.args.objective c.loop-k.k) ≤ objective_most n = at_place (objective_most n) k o c.loop-k-test.true c.requires.objective in
           let fits_o : FitsSigned w128 (entry c.args.objective c.loop-k.k) = fits _ (2 ^ 21) (omega (arith, small, objective_bound n)) (lit< tt) in
-          let is : IsEnd c.args.program.now.lines.items c.loop-k.k (entry c.args.objective c.loop-k.k) w.in-Some.end = simp to_z-of_z at w.in-Some.ensures in
+          let is : IsEnd c.args.program.now.lines c.loop-k.k (entry c.args.objective c.loop-k.k) w.in-Some.end = simp to_z-of_z at w.in-Some.ensures in
           let pushed = simp to_z-of_z at w.push.ensures in
           let moved = simp to_z-of_z at w.num-is in
-          subst (λ num. IsCornerTo (k + 1) p o num c.if-program-k.items) (sym moved)
+          subst (λ num. IsCornerTo (k + 1) p o num c.if-live-k.items) (sym moved)
           (subst (λ items. IsCornerTo (k + 1) p o (set c.loop-k.num k e.at) items) (sym (w.items-is ∙ pushed))
-          (corner_live k p o c.loop-k.num c.loop-k.items e c.loop-k-test.true c.requires w.if-program-k.true is c.loop-k.invariant))
-      | else-program-k w ↦
-          subst (λ num. IsCornerTo (k + 1) p o num c.if-program-k.items) (sym w.num-is)
+          (corner_live k p o c.loop-k.num c.loop-k.items e c.loop-k-test.true c.requires (subst (λ xs. slice_index_or xs c.loop-k.k false ≡ true) c.live-live.ensures w.if-live-k.true) is c.loop-k.invariant))
+      | else-live-k w ↦
+          subst (λ num. IsCornerTo (k + 1) p o num c.if-live-k.items) (sym w.num-is)
           (subst (λ items. IsCornerTo (k + 1) p o c.loop-k.num items) (sym w.items-is)
-          (corner_dead k p o c.loop-k.num c.loop-k.items c.loop-k-test.true c.requires w.if-program-k.false c.loop-k.invariant))
+          (corner_dead k p o c.loop-k.num c.loop-k.items c.loop-k-test.true c.requires (subst (λ xs. slice_index_or xs c.loop-k.k false ≡ false) c.live-live.ensures w.if-live-k.false) c.loop-k.invariant))
     ]
 
 pub returns : goal.returns

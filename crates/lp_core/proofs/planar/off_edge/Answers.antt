@@ -1,19 +1,18 @@
-use Rattle.std.proofs.Common.{◌≡◌, ℕ, ◌-◌, ◌<◌, [], ◌∷◌, length, refl, sym, ap, subst, ◌∙◌, arith, lit≤, rules}
-use Rattle.std.specs.Prelude.{ℤ, pos, negsuc, ◌+ℤ◌, ◌*ℤ◌, ◌<ℤ◌, ◌≤ℤ◌}
-use Rattle.std.proofs.lemmas.Int.{ints, to_z-of_z}
+use Rattle.std.proofs.Common.{◌≡◌, ℕ, ◌-◌, ◌<◌, length, refl, sym, ap, subst, ◌∙◌, arith, rules}
+use Rattle.std.specs.Prelude.{pos, ◌+ℤ◌, ◌*ℤ◌, ◌<ℤ◌}
+use Rattle.std.proofs.lemmas.Int.{to_z-of_z}
 use Rattle.std.specs.Int.{w64}
 use Rattle.std.specs.Int.RustNames.{FitsSigned}
-use Rattle.exact_algebra.specs.Poly.{var, lit, ◌⊕◌, ◌⊗◌}
-use Rattle.exact_algebra.proofs.Normal.{ring}
 use Rattle.lp_cert.specs.Program.{entry}
 use Rattle.lp_core.specs.declared.edge.Half.{Half}
 use Rattle.lp_core.specs.declared.reduced.Line.{Line}
 use Rattle.lp_core.specs.Lines.{along, line_at}
 use Rattle.lp_core.specs.Search.{IsEmpty, IsReduced}
-use Rattle.lp_core.specs.Planar.{AreEnds, IsApart, farkas_of, half_line, left_entry, left_side, lines_of, optimum_of, pivot_of, spot_num, whole_of}
+use Rattle.lp_core.specs.Bounds.{IsApart}
+use Rattle.lp_core.specs.Planar.{AreEnds, farkas_of, half_line, lines_of, optimum_of, pivot_of, spot_num, whole_of}
 use Rattle.lp_core.proofs.Back.{only_empty}
 use Rattle.lp_core.proofs.Halves.{whole_count, whole_is}
-use Rattle.lp_core.proofs.Edges.{edge_empty}
+use Rattle.lp_core.proofs.Edges.{edge_apart, edge_crossed, edge_empty}
 use Rattle.lp_core.proofs.Wholes.{whole_is_reduced}
 use Rattle.lp_core.proofs.planar.off_edge.Goals as goal
 
@@ -41,25 +40,17 @@ returns-in-Err c =
     let line : half_line e.row ≡ line_at lines c.args.r = ap half_line same ∙ c.requires.row in
     let broken = subst (λ (x : Half). ((half_line x).h *ℤ c.args.old.now.den) <ℤ along (half_line x).c (spot_num c.args.old.now)) (sym same) c.requires.broken in
     let l = c.in-Err.l in
-    let apart : IsApart lines v k c.args.r l = c.in-Err.ensures in
-    let entries : pos 1 *ℤ left_entry v (line_at lines l) k +ℤ pos 0 *ℤ left_entry v (line_at lines l) k ≡ pos 0 = ap (λ z. pos 1 *ℤ z +ℤ pos 0 *ℤ z) apart.none in
-    let sides : (pos 1 *ℤ left_side v (line_at lines l) +ℤ pos 0 *ℤ left_side v (line_at lines l)) <ℤ pos 0 =
-    subst (λ z. z <ℤ pos 0) (ring (left_side v (line_at lines l) ∷ []) (var 0) (lit (pos 1) ⊗ var 0 ⊕ lit (pos 0) ⊗ var 0) refl) apart.side in
+    let apart : IsApart lines v k (λ i. i < c.args.r) l = c.in-Err.ensures in
     let items : c.farkas.result ≡ farkas_of v lines c.args.r (l, pos 1) (l, pos 0) = c.farkas.ensures in
     subst (λ xs. IsEmpty (whole_of p) xs) (sym items)
-    (edge_empty p o c.requires.program c.requires.dimension reduced e c.args.r c.requires.within c.requires.boxes line l l (pos 1) (pos 0) apart.row apart.row (omega (arith, ints)) (omega (arith, ints)) (lit≤ tt) (lit≤ tt) entries sides (optimum_of c.args.old.now) c.requires.best broken)
+    (edge_empty p o c.requires.program c.requires.dimension reduced e c.args.r c.requires.within c.requires.boxes line l l (pos 1) (pos 0) apart.row apart.row
+    (edge_apart p o c.requires.program c.requires.dimension reduced e c.args.r c.requires.within c.requires.boxes line l apart) (optimum_of c.args.old.now) c.requires.best broken)
 
 pub farkas-requires-then-cross-clause-first_narrow : goal.farkas-requires-then-cross-clause-first_narrow
 farkas-requires-then-cross-clause-first_narrow c = c.requires.narrow _ c.in-Ok.ensures.upper.row
 
 pub farkas-requires-then-cross-clause-second_narrow : goal.farkas-requires-then-cross-clause-second_narrow
 farkas-requires-then-cross-clause-second_narrow c = c.requires.narrow _ c.in-Ok.ensures.lower.row
-
-crossing_entries : (u w a b : ℤ) → u ≡ pos 1 *ℤ a → w ≡ negsuc 0 *ℤ b → w *ℤ a +ℤ u *ℤ b ≡ pos 0
-crossing_entries u w a b f g = ap (λ z. z *ℤ a +ℤ u *ℤ b) g ∙ ap (λ z. (negsuc 0 *ℤ b) *ℤ a +ℤ z *ℤ b) f ∙ ring (a ∷ b ∷ []) ((lit (negsuc 0) ⊗ var 1) ⊗ var 0 ⊕ (lit (pos 1) ⊗ var 0) ⊗ var 1) (lit (pos 0)) refl
-
-least : (a : ℤ) → pos 0 <ℤ a → pos 0 ≤ℤ a
-least a h = omega (arith, ints)
 
 pub returns-then-cross : goal.returns-then-cross
 returns-then-cross c =
@@ -76,14 +67,11 @@ returns-then-cross c =
     let broken = subst (λ (x : Half). ((half_line x).h *ℤ c.args.old.now.den) <ℤ along (half_line x).c (spot_num c.args.old.now)) (sym same) c.requires.broken in
     let u = c.in-Ok.ends.upper in
     let w = c.in-Ok.ends.lower in
-    let bounds : AreEnds lines v k c.args.r c.args.r c.in-Ok.ends = c.in-Ok.ensures in
+    let bounds : AreEnds lines v k (λ i. i < c.args.r) (λ i. i < c.args.r) c.in-Ok.ends = c.in-Ok.ensures in
     let crossed : (w.entry *ℤ u.side +ℤ u.entry *ℤ w.side) <ℤ pos 0 = c.if-cross.ensures.0 refl in
-    let sides : (w.entry *ℤ left_side v (line_at lines u.row) +ℤ u.entry *ℤ left_side v (line_at lines w.row)) <ℤ pos 0 =
-    subst (λ z. (w.entry *ℤ z +ℤ u.entry *ℤ left_side v (line_at lines w.row)) <ℤ pos 0) bounds.upper.side (subst (λ z. (w.entry *ℤ u.side +ℤ u.entry *ℤ z) <ℤ pos 0) bounds.lower.side crossed) in
     let f1 : FitsSigned w64 c.in-Ok.ends.upper.entry = search rules in
     let f2 : FitsSigned w64 c.in-Ok.ends.lower.entry = search rules in
     let items : c.farkas-then-cross.result ≡ farkas_of v lines c.args.r (u.row, w.entry) (w.row, u.entry) = simp to_z-of_z at c.farkas-then-cross.ensures in
     subst (λ xs. IsEmpty (whole_of p) xs) (sym items)
     (edge_empty p o c.requires.program c.requires.dimension reduced e c.args.r c.requires.within c.requires.boxes line u.row w.row w.entry u.entry bounds.upper.row bounds.lower.row
-    (least w.entry w.positive) (least u.entry u.positive) w.small_entry u.small_entry
-    (crossing_entries u.entry w.entry (left_entry v (line_at lines u.row) k) (left_entry v (line_at lines w.row) k) bounds.upper.entry bounds.lower.entry) sides (optimum_of c.args.old.now) c.requires.best broken)
+    (edge_crossed p o c.requires.program c.requires.dimension reduced e c.args.r c.requires.within c.requires.boxes line c.in-Ok.ends bounds crossed) (optimum_of c.args.old.now) c.requires.best broken)

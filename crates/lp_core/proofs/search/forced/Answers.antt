@@ -23,7 +23,7 @@ only_point-num-requires c =
     let p = c.args.pivot.now in
     let r = c.args.r in
     let n = level P.live in
-    let small : (l : ℕ) → l < length P.lines.items → IsSmallLine (2 ^ 10) (2 ^ 80) (line_at P.lines.items l) = λ l h. line_fits n (line_at P.lines.items l) (c.requires.reduced.lines l h) in
+    let small : (l : ℕ) → l < length P.lines → IsSmallLine (2 ^ 10) (2 ^ 80) (line_at P.lines l) = λ l h. line_fits n (line_at P.lines l) (c.requires.reduced.lines l h) in
     let own : IsSmallLine (2 ^ 10) (2 ^ 80) p.line = subst (λ x. IsSmallLine (2 ^ 10) (2 ^ 80) x) (sym c.requires.line) (small r c.requires.within) in
     let size = pivot_small p (2 ^ 10) (2 ^ 80) own in
     let fits_size : FitsSigned w128 c.args.pivot.now.size = fits _ _ size (lit< tt) in
@@ -35,11 +35,11 @@ meets-requires-clause-small c =
     let p = c.args.pivot.now in
     let r = c.args.r in
     let n = level P.live in
-    let small : (l : ℕ) → l < length P.lines.items → IsSmallLine (2 ^ 10) (2 ^ 80) (line_at P.lines.items l) = λ l h. line_fits n (line_at P.lines.items l) (c.requires.reduced.lines l h) in
+    let small : (l : ℕ) → l < length P.lines → IsSmallLine (2 ^ 10) (2 ^ 80) (line_at P.lines l) = λ l h. line_fits n (line_at P.lines l) (c.requires.reduced.lines l h) in
     let own : IsSmallLine (2 ^ 10) (2 ^ 80) p.line = subst (λ x. IsSmallLine (2 ^ 10) (2 ^ 80) x) (sym c.requires.line) (small r c.requires.within) in
     let size = pivot_small p (2 ^ 10) (2 ^ 80) own in
     let fits_size : FitsSigned w128 c.args.pivot.now.size = fits _ _ size (lit< tt) in
-    let l : c.loop-l.l < length P.lines.items = omega (arith, c.loop-l-test.true, c.len-l-end.ensures.value) in
+    let l : c.loop-l.l < length P.lines = omega (arith, c.loop-l-test.true, c.len-l-end.ensures) in
     let line : IsSmallLine (2 ^ 10) (2 ^ 80) c.line-line.result = subst (λ x. IsSmallLine (2 ^ 10) (2 ^ 80) x) (sym c.line-line.ensures) (small c.loop-l.l l) in
     line
 
@@ -49,7 +49,7 @@ meets-requires-clause-num c =
     let p = c.args.pivot.now in
     let r = c.args.r in
     let n = level P.live in
-    let small : (l : ℕ) → l < length P.lines.items → IsSmallLine (2 ^ 10) (2 ^ 80) (line_at P.lines.items l) = λ l h. line_fits n (line_at P.lines.items l) (c.requires.reduced.lines l h) in
+    let small : (l : ℕ) → l < length P.lines → IsSmallLine (2 ^ 10) (2 ^ 80) (line_at P.lines l) = λ l h. line_fits n (line_at P.lines l) (c.requires.reduced.lines l h) in
     let own : IsSmallLine (2 ^ 10) (2 ^ 80) p.line = subst (λ x. IsSmallLine (2 ^ 10) (2 ^ 80) x) (sym c.requires.line) (small r c.requires.within) in
     let size = pivot_small p (2 ^ 10) (2 ^ 80) own in
     let fits_size : FitsSigned w128 c.args.pivot.now.size = fits _ _ size (lit< tt) in
@@ -61,7 +61,7 @@ meets-requires-clause-den c =
     let p = c.args.pivot.now in
     let r = c.args.r in
     let n = level P.live in
-    let small : (l : ℕ) → l < length P.lines.items → IsSmallLine (2 ^ 10) (2 ^ 80) (line_at P.lines.items l) = λ l h. line_fits n (line_at P.lines.items l) (c.requires.reduced.lines l h) in
+    let small : (l : ℕ) → l < length P.lines → IsSmallLine (2 ^ 10) (2 ^ 80) (line_at P.lines l) = λ l h. line_fits n (line_at P.lines l) (c.requires.reduced.lines l h) in
     let own : IsSmallLine (2 ^ 10) (2 ^ 80) p.line = subst (λ x. IsSmallLine (2 ^ 10) (2 ^ 80) x) (sym c.requires.line) (small r c.requires.within) in
     let size = pivot_small p (2 ^ 10) (2 ^ 80) own in
     let fits_size : FitsSigned w128 c.args.pivot.now.size = fits _ _ size (lit< tt) in
@@ -73,11 +73,11 @@ crossing-requires c =
     let p = c.args.pivot.now in
     let r = c.args.r in
     let n = level P.live in
-    let small : (l : ℕ) → l < length P.lines.items → IsSmallLine (2 ^ 10) (2 ^ 80) (line_at P.lines.items l) = λ l h. line_fits n (line_at P.lines.items l) (c.requires.reduced.lines l h) in
+    let small : (l : ℕ) → l < length P.lines → IsSmallLine (2 ^ 10) (2 ^ 80) (line_at P.lines l) = λ l h. line_fits n (line_at P.lines l) (c.requires.reduced.lines l h) in
     let own : IsSmallLine (2 ^ 10) (2 ^ 80) p.line = subst (λ x. IsSmallLine (2 ^ 10) (2 ^ 80) x) (sym c.requires.line) (small r c.requires.within) in
     let size = pivot_small p (2 ^ 10) (2 ^ 80) own in
     let fits_size : FitsSigned w128 c.args.pivot.now.size = fits _ _ size (lit< tt) in
-    let l : c.loop-l.l < length P.lines.items = omega (arith, c.loop-l-test.true, c.len-l-end.ensures.value) in
+    let l : c.loop-l.l < length P.lines = omega (arith, c.loop-l-test.true, c.len-l-end.ensures) in
     let line : IsSmallLine (2 ^ 10) (2 ^ 80) c.line-line.result = subst (λ x. IsSmallLine (2 ^ 10) (2 ^ 80) x) (sym c.line-line.ensures) (small c.loop-l.l l) in
     line.entries
 
@@ -87,14 +87,14 @@ returns-then-not-meets c =
     let p = c.args.pivot.now in
     let r = c.args.r in
     let n = level P.live in
-    let small : (l : ℕ) → l < length P.lines.items → IsSmallLine (2 ^ 10) (2 ^ 80) (line_at P.lines.items l) = λ l h. line_fits n (line_at P.lines.items l) (c.requires.reduced.lines l h) in
+    let small : (l : ℕ) → l < length P.lines → IsSmallLine (2 ^ 10) (2 ^ 80) (line_at P.lines l) = λ l h. line_fits n (line_at P.lines l) (c.requires.reduced.lines l h) in
     let own : IsSmallLine (2 ^ 10) (2 ^ 80) p.line = subst (λ x. IsSmallLine (2 ^ 10) (2 ^ 80) x) (sym c.requires.line) (small r c.requires.within) in
     let size = pivot_small p (2 ^ 10) (2 ^ 80) own in
     let fits_size : FitsSigned w128 c.args.pivot.now.size = fits _ _ size (lit< tt) in
-    let l : c.loop-l.l < length P.lines.items = omega (arith, c.loop-l-test.true, c.len-l-end.ensures.value) in
+    let l : c.loop-l.l < length P.lines = omega (arith, c.loop-l-test.true, c.len-l-end.ensures) in
     let line : IsSmallLine (2 ^ 10) (2 ^ 80) c.line-line.result = subst (λ x. IsSmallLine (2 ^ 10) (2 ^ 80) x) (sym c.line-line.ensures) (small c.loop-l.l l) in
     let m = simp to_z-of_z at c.if-not-meets.ensures in
-    let x = line_at P.lines.items c.loop-l.l in
+    let x = line_at P.lines c.loop-l.l in
     let broken : (c.line-line.result.h *ℤ p.size) <ℤ along c.line-line.result.c c.only_point-num.result =
     by_lt_z (c.line-line.result.h *ℤ p.size) (along c.line-line.result.c c.only_point-num.result) (λ k. k) (λ k. never (m.1 k)) in
     let misses : (x.h *ℤ p.size) <ℤ along x.c (point_of p) =
@@ -109,13 +109,13 @@ loop-l-preserved c =
     let p = c.args.pivot.now in
     let r = c.args.r in
     let n = level P.live in
-    let small : (l : ℕ) → l < length P.lines.items → IsSmallLine (2 ^ 10) (2 ^ 80) (line_at P.lines.items l) = λ l h. line_fits n (line_at P.lines.items l) (c.requires.reduced.lines l h) in
+    let small : (l : ℕ) → l < length P.lines → IsSmallLine (2 ^ 10) (2 ^ 80) (line_at P.lines l) = λ l h. line_fits n (line_at P.lines l) (c.requires.reduced.lines l h) in
     let own : IsSmallLine (2 ^ 10) (2 ^ 80) p.line = subst (λ x. IsSmallLine (2 ^ 10) (2 ^ 80) x) (sym c.requires.line) (small r c.requires.within) in
     let size = pivot_small p (2 ^ 10) (2 ^ 80) own in
     let fits_size : FitsSigned w128 c.args.pivot.now.size = fits _ _ size (lit< tt) in
-    let l : c.loop-l.l < length P.lines.items = omega (arith, c.loop-l-test.true, c.len-l-end.ensures.value) in
+    let l : c.loop-l.l < length P.lines = omega (arith, c.loop-l-test.true, c.len-l-end.ensures) in
     let line : IsSmallLine (2 ^ 10) (2 ^ 80) c.line-line.result = subst (λ x. IsSmallLine (2 ^ 10) (2 ^ 80) x) (sym c.line-line.ensures) (small c.loop-l.l l) in
-    below_more (λ i. is_seen P.live r i ≡ true → along (line_at P.lines.items i).c (point_of p) ≤ℤ ((line_at P.lines.items i).h *ℤ p.size)) c.loop-l.l c.loop-l.invariant
+    below_more (λ i. is_seen P.live r i ≡ true → along (line_at P.lines i).c (point_of p) ≤ℤ ((line_at P.lines i).h *ℤ p.size)) c.loop-l.l c.loop-l.invariant
     (elim c.else-is_seen.branch [
       | else-is_seen-via-then-is_seen+else-not-meets w ↦ λ e.
           let m = simp to_z-of_z at w.if-not-meets.ensures in
@@ -130,12 +130,12 @@ returns c =
     let p = c.args.pivot.now in
     let r = c.args.r in
     let n = level P.live in
-    let small : (l : ℕ) → l < length P.lines.items → IsSmallLine (2 ^ 10) (2 ^ 80) (line_at P.lines.items l) = λ l h. line_fits n (line_at P.lines.items l) (c.requires.reduced.lines l h) in
+    let small : (l : ℕ) → l < length P.lines → IsSmallLine (2 ^ 10) (2 ^ 80) (line_at P.lines l) = λ l h. line_fits n (line_at P.lines l) (c.requires.reduced.lines l h) in
     let own : IsSmallLine (2 ^ 10) (2 ^ 80) p.line = subst (λ x. IsSmallLine (2 ^ 10) (2 ^ 80) x) (sym c.requires.line) (small r c.requires.within) in
     let size = pivot_small p (2 ^ 10) (2 ^ 80) own in
     let fits_size : FitsSigned w128 c.args.pivot.now.size = fits _ _ size (lit< tt) in
     let best = point_best P c.args.objective r p c.requires.reduced c.requires.within c.requires.line c.requires.alone c.args.best.now c.requires.best c.requires.broken
-    (λ l h e. c.loop-l.invariant l (omega (arith, h, c.loop-l-test.false, c.len-l-end.ensures.value)) e) in
+    (λ l h e. c.loop-l.invariant l (omega (arith, h, c.loop-l-test.false, c.len-l-end.ensures)) e) in
     subst (λ y. IsBest (is_seen P.live (r + 1)) P c.args.objective (record { num = y; den = to_z w128 (of_z w128 c.args.pivot.now.size); items = c.only_bound-items.result })) (sym c.only_point-num.ensures)
     (subst (λ items. IsBest (is_seen P.live (r + 1)) P c.args.objective (record { num = point_of p; den = to_z w128 (of_z w128 c.args.pivot.now.size); items = items })) (sym c.only_bound-items.ensures)
     (simp to_z-of_z best))

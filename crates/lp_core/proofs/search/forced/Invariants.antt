@@ -6,4 +6,4 @@ use Rattle.lp_core.proofs.search.forced.Given as goal
 
 abbrev pub invariant-loop-l : goal.invariant-loop-l
 invariant-loop-l l =
-    (i : ℕ) → i < l.l → is_seen l.program.live l.r i ≡ true → along (line_at l.program.lines.items i).c (point_of l.pivot) ≤ℤ ((line_at l.program.lines.items i).h *ℤ l.pivot.size)
+    (i : ℕ) → i < l.l → is_seen l.program.live l.r i ≡ true → along (line_at l.program.lines i).c (point_of l.pivot) ≤ℤ ((line_at l.program.lines i).h *ℤ l.pivot.size)

@@ -1,55 +1,61 @@
-use Rattle.std.proofs.Common.{◌≡◌, ◌≢◌, ◌+◌, ◌-◌, ◌*◌, ◌<◌, [], ap, sym, ◌∙◌, arith, lit≤, rules}
-use Rattle.std.specs.Prelude.{pos, negsuc, ◌*ℤ◌}
-use Rattle.std.specs.Int.{w64}
-use Rattle.std.specs.Int.RustNames.{FitsSigned}
-use Rattle.std.proofs.lemmas.Int.{ints, to_z-of_z}
-use Rattle.lp_core.specs.declared.reduced.Line.{Line}
+use Rattle.std.proofs.Common.{◌≡◌, ℕ, zero, suc, ◌+◌, ◌-◌, ◌*◌, ◌<◌, ◌⊎◌, inl, inr, refl, sym, subst, arith}
+use Rattle.std.specs.Prelude.{pos, ◌<ℤ◌}
+use Rattle.lp_core.specs.Bounds.{IsBoxRow, IsMissedRow, left_entry, left_side}
 use Rattle.lp_core.specs.Lines.{line_at}
-use Rattle.lp_core.specs.Planar.{half_line, lines_of, pivot_of}
-use Rattle.lp_core.proofs.Edges.{box_left, box_line}
+use Rattle.lp_core.specs.Planar.{lines_of, pivot_of, reach_of}
+use Rattle.lp_core.proofs.Ends.{ends_more}
 use Rattle.lp_core.proofs.edge.Edge.box_ends.Goals as goal
 
-pub invariant_of-result : goal.invariant_of-result
-invariant_of-result c =
-    let f1 : FitsSigned w64 c.known_at-upper.result.side = search rules in
-    let s = c.known_at-upper.result.small_side in
-    simp to_z-of_z (record { positive = omega (arith, ints); small_entry = lit≤ tt; small_side = omega (arith, s) })
+-- the rows of the box, by the place of the variable that goes
+four : (place l : ℕ) → place < 2 → l < 4 → ((IsBoxRow (1 - place) l) ⊎ (l ≡ 2 * place)) ⊎ (l ≡ 2 * place + 1)
+four zero zero p l = inl (inr refl)
+four zero (suc zero) p l = inr refl
+four zero (suc (suc zero)) p l = inl (inl (inl refl))
+four zero (suc (suc (suc zero))) p l = inl (inl (inr refl))
+four (suc zero) zero p l = inl (inl (inl refl))
+four (suc zero) (suc zero) p l = inl (inl (inr refl))
+four (suc zero) (suc (suc zero)) p l = inl (inr refl)
+four (suc zero) (suc (suc (suc zero))) p l = inr refl
+four place (suc (suc (suc (suc n)))) p l = absurd (omega (arith, l))
+four (suc (suc n)) l p h = absurd (omega (arith, p))
 
-pub returns : goal.returns
-returns c =
-    let p = c.args.rows.now in
-    let e = c.args.self.now in
-    let v = pivot_of e in
-    let k = 1 - e.place in
-    let lines = lines_of p in
-    let f1 : FitsSigned w64 c.known_at-upper.result.side = search rules in
-    let f2 : FitsSigned w64 c.known_at-lower.result.side = search rules in
-    let planar = e.planar in
-    let few : k < 2 = omega arith in
-    let apart : e.place ≢ k = λ f. absurd (omega (arith, planar, f)) in
-    let b = box_line p [] c.requires.program c.requires.dimension k few in
-    let upper : half_line c.known_at-upper.result ≡ line_at lines (2 * k) = c.known_at-upper.ensures in
-    let lower : half_line c.known_at-lower.result ≡ line_at lines (2 * k + 1) = c.known_at-lower.ensures in
-    let u = box_left v (line_at lines (2 * k)) k (pos 1) b.0 (omega (arith, few)) apart in
-    let l = box_left v (line_at lines (2 * k + 1)) k (negsuc 0) b.1 (omega (arith, few)) apart in
+more : (place : ℕ) → place < 2 → 2 * place + 1 < 4
+more place p = omega (arith, p)
+
+pub returns-in-Err : goal.returns-in-Err
+returns-in-Err c =
+    let planar = c.args.self.now.planar in
+    let v = pivot_of c.args.self.now in
+    let k = 1 - c.args.self.now.place in
+    let lines = lines_of c.args.rows.now in
+    let h : (c.in-Err.l ≡ 2 * c.args.self.now.place) × IsMissedRow lines v k (2 * c.args.self.now.place) = c.in-Err.ensures in
+    let e = h.0 in
     record {
-      upper = record {
-        row = omega (arith, few);
-        entry = ap (λ z. pos 1 *ℤ z) (sym u.0);
-        side = to_z-of_z w64 c.known_at-upper.result.side f1 ∙ ap (λ (x : Line). x.h) upper ∙ sym u.1;
-        below = λ i h. absurd (omega (arith, h));
-      };
-      lower = record {
-        row = omega (arith, few);
-        entry = ap (λ z. negsuc 0 *ℤ z) (sym l.0);
-        side = to_z-of_z w64 c.known_at-lower.result.side f2 ∙ ap (λ (x : Line). x.h) lower ∙ sym l.1;
-        below = λ i h. absurd (omega (arith, h));
-      };
-      flat = λ i h. absurd (omega (arith, h));
+      row = omega (arith, e, planar);
+      none = subst (λ n. left_entry v (line_at lines n) k ≡ pos 0) (sym h.0) h.1.none;
+      side = subst (λ n. left_side v (line_at lines n) <ℤ pos 0) (sym h.0) h.1.below;
     }
 
-pub known_at-upper-requires-clause-narrow : goal.known_at-upper-requires-clause-narrow
-known_at-upper-requires-clause-narrow c = let m = c.args.self.now.planar in c.requires.narrow _ (omega (arith, m))
+pub returns-in-Err-with_row : goal.returns-in-Err-with_row
+returns-in-Err-with_row c =
+    let planar = c.args.self.now.planar in
+    let v = pivot_of c.args.self.now in
+    let k = 1 - c.args.self.now.place in
+    let lines = lines_of c.args.rows.now in
+    let h : (c.in-Err-with_row.l ≡ 2 * c.args.self.now.place + 1) × IsMissedRow lines v k (2 * c.args.self.now.place + 1) = c.in-Err-with_row.ensures in
+    let e = h.0 in
+    record {
+      row = omega (arith, e, planar);
+      none = subst (λ n. left_entry v (line_at lines n) k ≡ pos 0) (sym h.0) h.1.none;
+      side = subst (λ n. left_side v (line_at lines n) <ℤ pos 0) (sym h.0) h.1.below;
+    }
 
-pub known_at-lower-requires-clause-narrow : goal.known_at-lower-requires-clause-narrow
-known_at-lower-requires-clause-narrow c = let m = c.args.self.now.planar in c.requires.narrow _ (omega (arith, m))
+pub returns-in-Ok-with_row : goal.returns-in-Ok-with_row
+returns-in-Ok-with_row c =
+    let planar = c.args.self.now.planar in
+    let place = c.args.self.now.place in
+    let v = pivot_of c.args.self.now in
+    let k = 1 - place in
+    let lines = lines_of c.args.rows.now in
+    let first = ends_more lines v k (2 * place) (IsBoxRow k) (λ i. IsBoxRow k i ⊎ (i ≡ 2 * place)) (λ i. i < 4) (λ i h. h) (reach_of c.other_ends.result) (reach_of c.in-Ok.ends) _ _ c.other_ends.ensures c.in-Ok.ensures (omega (arith, planar)) refl refl in
+    ends_more lines v k (2 * place + 1) (λ i. IsBoxRow k i ⊎ (i ≡ 2 * place)) (λ i. i < 4) (λ i. i < 4) (λ i h. four place i planar h) (reach_of c.in-Ok.ends) (reach_of c.in-Ok-with_row.ends) _ _ first c.in-Ok-with_row.ensures (more place planar) refl refl

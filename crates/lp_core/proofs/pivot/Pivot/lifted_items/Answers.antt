@@ -17,7 +17,7 @@ use Rattle.lp_core.proofs.pivot.Pivot.lifted_items.Goals as goal
 pub weighed-sum-requires-clause-small : goal.weighed-sum-requires-clause-small
 weighed-sum-requires-clause-small c =
     let p = c.args.self.now in
-    let lines = c.args.program.now.lines.items in
+    let lines = c.args.program.now.lines in
     let live = c.args.program.now.live in
     let items = c.args.items.now in
     let i = c.loop-i.i in
@@ -33,7 +33,7 @@ weighed-sum-requires-clause-small c =
 pub weighed-sum-requires-clause-times : goal.weighed-sum-requires-clause-times
 weighed-sum-requires-clause-times c =
     let p = c.args.self.now in
-    let lines = c.args.program.now.lines.items in
+    let lines = c.args.program.now.lines in
     let live = c.args.program.now.live in
     let items = c.args.items.now in
     let i = c.loop-i.i in
@@ -49,7 +49,7 @@ weighed-sum-requires-clause-times c =
 pub overflow_add-sum : goal.overflow_add-sum
 overflow_add-sum c =
     let p = c.args.self.now in
-    let lines = c.args.program.now.lines.items in
+    let lines = c.args.program.now.lines in
     let live = c.args.program.now.live in
     let items = c.args.items.now in
     let i = c.loop-i.i in
@@ -70,7 +70,7 @@ overflow_add-sum c =
 pub loop-i-preserved : goal.loop-i-preserved
 loop-i-preserved c =
     let p = c.args.self.now in
-    let lines = c.args.program.now.lines.items in
+    let lines = c.args.program.now.lines in
     let live = c.args.program.now.live in
     let items = c.args.items.now in
     let i = c.loop-i.i in
@@ -105,7 +105,7 @@ loop-i-preserved c =
 pub overflow_mul-self : goal.overflow_mul-self
 overflow_mul-self c =
     let p = c.args.self.now in
-    let lines = c.args.program.now.lines.items in
+    let lines = c.args.program.now.lines in
     let live = c.args.program.now.live in
     let items = c.args.items.now in
     let i = c.loop-i.i in
@@ -123,7 +123,7 @@ overflow_mul-self c =
 pub returns : goal.returns
 returns c =
     let p = c.args.self.now in
-    let lines = c.args.program.now.lines.items in
+    let lines = c.args.program.now.lines in
     let live = c.args.program.now.live in
     let items = c.args.items.now in
     let i = c.loop-i.i in

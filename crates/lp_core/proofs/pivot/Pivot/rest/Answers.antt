@@ -1,10 +1,11 @@
-use Rattle.std.proofs.Common.{◌^◌, lit<, arith}
+use Rattle.std.proofs.Common.{◌≡◌, ◌^◌, length, lit<, arith, rules}
 use Rattle.std.specs.Prelude.{◌*ℤ◌}
 use Rattle.std.specs.Int.{w128}
 use Rattle.std.specs.Int.RustNames.{FitsSigned}
 use Rattle.std.proofs.lemmas.Int.{to_z-of_z}
 use Rattle.lp_cert.specs.Program.{entry}
 use Rattle.lp_core.proofs.Fits.{fits, at_place, pivot_small, sign_times, sign_fits}
+use Rattle.lp_core.proofs.Views.{rest_unique}
 use Rattle.lp_core.proofs.pivot.Pivot.rest.Goals as goal
 
 pub overflow_mul-self : goal.overflow_mul-self
@@ -42,4 +43,5 @@ returns c =
     let size = pivot_small p (2 ^ 10) (2 ^ 80) c.requires.own in
     let f4 : FitsSigned w128 c.args.self.now.size = fits _ _ size (lit< tt) in
     let m = simp to_z-of_z at c.combined.ensures in
-    m
+    let three : length c.combined.result ≡ 3 = search rules in
+    rest_unique p c.args.objective c.combined.result three m
