@@ -2,11 +2,11 @@
 use Rattle.std.proofs.Common.{ℕ}
 use Rattle.game_model.specs.SelfGeneration.{Correspondence, IsSelfGenerating}
 use Rattle.level_table.specs.declared.level.Level.{Level}
-use Rattle.level_table.specs.Problem.{Problem}
+use Rattle.level_table.specs.Problem.{Problem, IsProblem}
 use Rattle.level_table.specs.Levels.{Levels, Bounds, IsRow, lesser}
 use Rattle.level_table.specs.Operator.{IsRowLevel}
 use Rattle.level_table.specs.Start.{IsAboveSupported}
-use Rattle.bound_laws.specs.Laws.{IsProblem, HasBounds, KeepsSupported}
+use Rattle.bound_laws.specs.Laws.{HasBounds, KeepsSupported}
 use Rattle.bound_laws.proofs.Correspondence.{table_exists, table_is_supported, table_is_below, bounds_from_tables, HasTableUnder}
 use Rattle.bound_laws.proofs.Levels.{at_most_lesser}
 use Rattle.bound_laws.proofs.Operator.{supported_at_most_row_level}

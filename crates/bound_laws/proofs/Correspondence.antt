@@ -13,11 +13,11 @@ use Rattle.game_model.specs.SelfGeneration.{Entry, Correspondence, IsGenerated, 
 use Rattle.game_model.proofs.Profiles.{profile_number_below}
 use Rattle.level_table.specs.declared.level.Level.{Level}
 use Rattle.level_table.specs.declared.level.Level.TheVariants.{Empty, At}
-use Rattle.level_table.specs.Problem.{Problem, direction_count, direction, unit, fineness, discount_at, minus_axis, gain}
+use Rattle.level_table.specs.Problem.{Problem, direction_count, direction, unit, fineness, discount_at, minus_axis, gain, IsProblem}
 use Rattle.level_table.specs.Levels.{Levels, AtMost, Bounds, IsBelow, IsNumber}
 use Rattle.level_table.specs.Operator.{Fractions, Admissible, HasValueAbove, value}
 use Rattle.level_table.specs.Supported.{IsEven, IsSupported}
-use Rattle.bound_laws.specs.Laws.{IsProblem, HasBounds}
+use Rattle.bound_laws.specs.Laws.{HasBounds}
 use Rattle.bound_laws.specs.TableOf.{reach, common_denominator, HasEntryAbove, IsLevelOf, IsTableFrom}
 use Rattle.bound_laws.proofs.Ceilings.{ceiling_of}
 use Rattle.bound_laws.proofs.Cleared.{incentive_follows, value_cleared, above_cleared}

@@ -4,8 +4,7 @@ use Rattle.std.specs.Prelude.{ℤ, pos, ◌*ℤ◌, neg_ℤ}
 use Rattle.std.proofs.lemmas.List.{get_or_default, get_or-set_same, get_or-set_other}
 use Rattle.direction_set.specs.DirectionTable.{vector_at, negative, unit_vector, zero_vector, opposite_of}
 use Rattle.game_model.specs.SelfGeneration.{part, dot}
-use Rattle.level_table.specs.Problem.{Problem, direction_count, direction, plus_axis, minus_axis}
-use Rattle.bound_laws.specs.Laws.{IsProblem}
+use Rattle.level_table.specs.Problem.{Problem, direction_count, direction, plus_axis, minus_axis, IsProblem}
 use Rattle.bound_laws.proofs.Order.{nought_times, one_times, minus_times}
 use Rattle.bound_laws.proofs.Places.{plus_axis_known, minus_axis_known}
 use Rattle.bound_laws.proofs.Sums.{sum_below-one}

@@ -9,13 +9,13 @@ use Rattle.game_model.specs.Game.{states}
 use Rattle.game_model.specs.SelfGeneration.{sum_below}
 use Rattle.level_table.specs.declared.level.Level.{Level}
 use Rattle.level_table.specs.declared.level.Level.TheVariants.{Empty, At}
-use Rattle.level_table.specs.Problem.{Problem, direction_count}
+use Rattle.level_table.specs.Problem.{Problem, direction_count, IsProblem}
 use Rattle.level_table.specs.Levels.{Levels, AtMost, IsBelow, IsNumber, IsRow, opening_table}
 use Rattle.level_table.specs.Operator.{HasValueAbove, IsRowLevel, value, value_unit}
 use Rattle.level_table.specs.Supported.{IsEven}
 use Rattle.level_table.specs.Iterates.{number_of, height, row_drop, emptied, drop_of}
 use Rattle.level_table.specs.Start.{IsBetween}
-use Rattle.bound_laws.specs.Laws.{IsProblem, HasRange}
+use Rattle.bound_laws.specs.Laws.{HasRange}
 use Rattle.bound_laws.specs.Falls.{PassesRowLevels, IsBelowIterate, HasFloor, most_drop}
 use Rattle.bound_laws.proofs.Directions.{opposite_known}
 use Rattle.bound_laws.proofs.Levels.{number_above, level_at_most_trans, at_most_lesser}

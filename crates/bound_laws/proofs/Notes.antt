@@ -17,14 +17,14 @@ use Rattle.level_table.specs.declared.reason.Item.{Item}
 use Rattle.level_table.specs.declared.reason.Item.TheVariants as items
 use Rattle.level_table.specs.declared.reason.Reason.{Reason}
 use Rattle.level_table.specs.declared.reason.Reason.TheVariants as reasons
-use Rattle.level_table.specs.Problem.{Problem, direction_count, direction, minus_axis, gain}
+use Rattle.level_table.specs.Problem.{Problem, direction_count, direction, minus_axis, gain, IsProblem}
 use Rattle.level_table.specs.Levels.{Levels, AtMost, IsBelow, IsNumber, IsRow}
 use Rattle.level_table.specs.Operator.{Fractions, Admissible, HasValueAbove}
 use Rattle.level_table.specs.Supported.{IsSupported}
 use Rattle.level_table.specs.Start.{IsAboveSupported}
 use Rattle.level_table.specs.declared.reason.Note.{Note}
 use Rattle.level_table.specs.Notes.{Keeps, coefficient, right_side, multiplier, IsItem, added_coefficients, added_right_sides, IsCertificate, no_note, Named, IsReason, IsNote, AreNotes, levels_of, bounding}
-use Rattle.bound_laws.specs.Laws.{IsProblem, HasBounds, HasKeptAbove, KeepsSupported}
+use Rattle.bound_laws.specs.Laws.{HasBounds, HasKeptAbove, KeepsSupported}
 use Rattle.bound_laws.specs.TableOf.{IsLevelOf}
 use Rattle.bound_laws.proofs.Bounding.{above_supported_bounds}
 use Rattle.bound_laws.proofs.Correspondence.{table_exists, table_is_supported, at_most_bound}
@@ -154,8 +154,8 @@ note_empties p keeps u earlier note ok supported kept empty right k within = at 
     at Empty e = refl
     at (At x) e =
         let top : HasValueAbove p u note.state k (x -ℤ pos 1) = supported.supports note.state k x (record { state = right.known; direction = within }) e in
-        let within : top.profile < length note.reasons = (let one : length note.reasons ≡ profile_count (counts p.game note.state) = right.one_each in let known : top.profile < profile_count (counts p.game note.state) = top.known in omega arith) in
-        absurd (reason_refutes p keeps u earlier note.state top.profile top.vector (get_or note.reasons top.profile (reasons.Successor 0)) ok kept empty right.known top.known top.admissible (right.reasons top.profile within))
+        let within : top.profile < length note.reasons.list = (let one : length note.reasons.list ≡ profile_count (counts p.game note.state) = right.one_each in let known : top.profile < profile_count (counts p.game note.state) = top.known in omega arith) in
+        absurd (reason_refutes p keeps u earlier note.state top.profile top.vector (get_or note.reasons.list top.profile (reasons.Successor 0)) ok kept empty right.known top.known top.admissible (right.reasons top.profile within))
 
 -- what holds of all notes before one holds of what is named before it
 named_before : (p : Problem) (u : Levels) (notes : List Note) (l : ℕ) → ((j : ℕ) → j < l → j < length notes → (k : ℕ) → k < direction_count p → u (get_or notes j no_note).state k ≡ Empty)
@@ -232,7 +232,7 @@ note_under p keeps weaker earlier note ok less right =
       new = right.new;
       one_each = right.one_each;
       reasons = λ a inside.
-          reason_under p keeps weaker earlier note.state a (get_or note.reasons a (reasons.Successor 0)) ok less right.known (omega (arith, right.one_each)) (right.reasons a inside);
+          reason_under p keeps weaker earlier note.state a (get_or note.reasons.list a (reasons.Successor 0)) ok less right.known (omega (arith, right.one_each)) (right.reasons a inside);
     }
 
 pub notes_above_bound : (p : Problem) (start : Levels) (notes : List Note) → IsProblem p → HasBounds p start

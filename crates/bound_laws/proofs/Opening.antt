@@ -12,11 +12,10 @@ use Rattle.game_model.specs.SelfGeneration.{Correspondence, Entry, IsGenerated, 
 use Rattle.game_model.proofs.Profiles.{EachPositive, profile_number_below}
 use Rattle.level_table.specs.declared.level.Level.{Level}
 use Rattle.level_table.specs.declared.level.Level.TheVariants.{Empty, At}
-use Rattle.level_table.specs.Problem.{Problem, direction_count, direction, unit, fineness, discount_at, plus_axis, minus_axis, largest, largest_payoff, opening_level}
+use Rattle.level_table.specs.Problem.{Problem, direction_count, direction, unit, fineness, discount_at, plus_axis, minus_axis, largest, largest_payoff, opening_level, IsProblem}
 use Rattle.level_table.specs.Levels.{Levels, IsBelow, IsRow, opening_table}
 use Rattle.level_table.specs.Operator.{Fractions, Admissible, HasValueAbove, IsRowLevel, value, value_unit}
 use Rattle.level_table.specs.Start.{IsBetween}
-use Rattle.bound_laws.specs.Laws.{IsProblem}
 use Rattle.bound_laws.proofs.Cleared.{peak_at_most}
 use Rattle.bound_laws.proofs.Directions.{dot-plus_axis, dot-minus_axis, part-plus_axis_same, part-plus_axis_other, part-minus_axis_same, part-minus_axis_other, part-opposite, opposite_known}
 use Rattle.bound_laws.proofs.Levels.{number_at_most}

@@ -7,12 +7,11 @@ use Rattle.game_model.specs.Game.{states, counts, profile_count, successor, reac
 use Rattle.game_model.specs.SelfGeneration.{part}
 use Rattle.level_table.specs.declared.level.Level.{Level}
 use Rattle.level_table.specs.declared.level.Level.TheVariants.{Empty, At}
-use Rattle.level_table.specs.Problem.{Problem, direction_count, minus_axis, discount_at, fineness}
+use Rattle.level_table.specs.Problem.{Problem, direction_count, minus_axis, discount_at, fineness, IsProblem}
 use Rattle.level_table.specs.Levels.{Levels, AtMost, IsBelow, IsRow, lesser}
 use Rattle.level_table.specs.Operator.{Fractions, Admissible, HasValueAbove, IsRowLevel, value, value_unit}
 use Rattle.level_table.specs.Supported.{IsSupported}
 use Rattle.level_table.specs.Iterates.{IsNext, IsIterate}
-use Rattle.bound_laws.specs.Laws.{IsProblem}
 use Rattle.bound_laws.proofs.Levels.{number_above, number_at_most, same_level, level_at_most_self, level_at_most_trans, lesser_at_most, at_most_lesser, lesser_grows}
 use Rattle.bound_laws.proofs.Order.{between_multiples, loosen, widen}
 use Rattle.bound_laws.proofs.Places.{next_state, reached_state, minus_axis_known, q_positive}

@@ -2,8 +2,7 @@
 use Rattle.std.proofs.Common.{ℕ, ◌<◌, arith}
 use Rattle.game_model.specs.Game.{DynamicGame, IsGame, IsState, IsDeviation, states, counts, profile_count, successor, reached, deviation_at}
 use Rattle.game_model.proofs.Profiles.{EachPositive, Moves, moves}
-use Rattle.level_table.specs.Problem.{Problem, direction_count, minus_axis, plus_axis}
-use Rattle.bound_laws.specs.Laws.{IsProblem}
+use Rattle.level_table.specs.Problem.{Problem, direction_count, minus_axis, plus_axis, IsProblem}
 
 pub each_positive : (g : DynamicGame) (s : ℕ) → IsGame g → s < states g → EachPositive (counts g s)
 each_positive g s ok state j within =

@@ -12,11 +12,11 @@ use Rattle.game_model.specs.Game.{DynamicGame, IsGame, states, counts, profile_c
 use Rattle.game_model.specs.SelfGeneration.{part, sum_below}
 use Rattle.level_table.specs.declared.level.Level.{Level}
 use Rattle.level_table.specs.declared.level.Level.TheVariants.{Empty, At}
-use Rattle.level_table.specs.Problem.{Problem, direction, fineness, largest_payoff, opening_level}
+use Rattle.level_table.specs.Problem.{Problem, direction, fineness, largest_payoff, opening_level, IsProblem}
 use Rattle.level_table.specs.Levels.{Levels, AtMost, IsBelow, IsRow, lesser, opening_table}
 use Rattle.level_table.specs.Iterates.{IsIterate}
 use Rattle.level_table.specs.Start.{IsBetween, IsStart}
-use Rattle.bound_laws.specs.Laws.{IsProblem, HasBounds, HasRange}
+use Rattle.bound_laws.specs.Laws.{HasBounds, HasRange}
 use Rattle.bound_laws.proofs.Directions.{part-opposite}
 use Rattle.bound_laws.proofs.Opening.{payoff_at_most_largest, opening_bounds, profile_count_positive, row_level_is_between, top_payoff}
 use Rattle.bound_laws.proofs.Places.{each_positive}

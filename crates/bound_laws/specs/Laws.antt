@@ -1,18 +1,11 @@
 -- What the laws are stated over.
 use Rattle.std.specs.Prelude.{ℕ, List}
-use Rattle.game_model.specs.Game.{IsGame}
-use Rattle.direction_set.specs.DirectionTable.{IsDirectionTable}
 use Rattle.level_table.specs.declared.level.Level.TheVariants.{At}
 use Rattle.level_table.specs.Problem.{Problem}
 use Rattle.level_table.specs.Levels.{Levels, Bounds, IsRow}
 use Rattle.level_table.specs.declared.reason.Note.{Note}
 use Rattle.level_table.specs.Notes.{AreNotes}
 use Rattle.level_table.specs.Start.{IsAboveSupported, IsBetween}
-
--- a game within its limits, and a table of directions for its players
-pub record IsProblem (p : Problem) : Type 0 where
-  pub game : IsGame p.game
-  pub directions : IsDirectionTable p.game.players p.directions
 
 -- each level of the table bounds
 abbrev pub HasBounds : Problem → Levels → Type 0

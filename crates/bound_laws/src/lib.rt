@@ -13,7 +13,7 @@ ghost use Rattle.game_model.specs.Game.{states, counts, profile_count};
 ghost use Rattle.game_model.specs.SelfGeneration.{Correspondence, HasNoEntry, IsSelfGenerating};
 ghost use Rattle.level_table.specs.declared.level.Level.{Level};
 ghost use Rattle.level_table.specs.declared.level.Level.TheVariants.{At, Empty};
-ghost use Rattle.level_table.specs.Problem.{Problem, direction_count, opening_level};
+ghost use Rattle.level_table.specs.Problem.{Problem, direction_count, opening_level, IsProblem};
 ghost use Rattle.level_table.specs.Levels.{AtMost, Bounds, IsBelow, IsRow, Levels, lesser, opening_table};
 ghost use Rattle.level_table.specs.Operator.{Admissible, Fractions, HasValueAbove, IsRowLevel, value, value_unit};
 ghost use Rattle.level_table.specs.Supported.{IsEven, IsSupported};
@@ -22,7 +22,7 @@ ghost use Rattle.level_table.specs.declared.reason.Note.{Note};
 ghost use Rattle.level_table.specs.Notes.{AreNotes, IsNote, Named, bounding, levels_of};
 ghost use Rattle.level_table.specs.Start.{IsAboveSupported, IsBetween, IsStart};
 ghost use Rattle.bound_laws.specs.Falls.{HasFloor, IsBelowIterate, PassesRowLevels, most_drop};
-ghost use Rattle.bound_laws.specs.Laws.{HasBounds, HasKeptAbove, HasRange, IsProblem, KeepsSupported};
+ghost use Rattle.bound_laws.specs.Laws.{HasBounds, HasKeptAbove, HasRange, KeepsSupported};
 ghost use Rattle.bound_laws.specs.TableOf.{IsTableFrom};
 
 /// A greater table admits more continuation payoffs, so its row levels and its iterates are at least as great. A row

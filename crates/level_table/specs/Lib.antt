@@ -3,6 +3,8 @@ pub mod Levels
 pub mod Notes
 pub mod Operator
 pub mod Problem
+pub mod Reasons
+pub mod Room
 pub mod Start
 pub mod Supported
 pub mod Tables

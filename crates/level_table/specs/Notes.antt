@@ -1,12 +1,12 @@
 -- Why a state is empty: one reason for each profile.
-use Rattle.std.specs.Prelude.{◌≡◌, ◌⊎◌, ℕ, ◌<◌, List, [], ◌∷◌, length, take, slice_index_or, All, ℤ, pos, ◌+ℤ◌, ◌-ℤ◌, ◌*ℤ◌, ◌≤ℤ◌, ◌<ℤ◌, neg_ℤ, if◌then◌else◌, ◌==◌}
+use Rattle.std.specs.Prelude.{◌≡◌, ◌≢◌, ◌⊎◌, ℕ, ◌<◌, ◌≤◌, List, [], ◌∷◌, length, take, slice_index_or, All, ℤ, pos, ◌+ℤ◌, ◌-ℤ◌, ◌*ℤ◌, ◌≤ℤ◌, ◌<ℤ◌, neg_ℤ, if◌then◌else◌, ◌==◌}
 use Rattle.level_table.specs.declared.level.Level.TheVariants.{At}
 use Rattle.level_table.specs.declared.reason.Item.{Item}
 use Rattle.level_table.specs.declared.reason.Item.TheVariants as items
 use Rattle.level_table.specs.declared.reason.Note.{Note}
 use Rattle.level_table.specs.declared.reason.Reason.{Reason}
 use Rattle.level_table.specs.declared.reason.Reason.TheVariants as reasons
-use Rattle.game_model.specs.Game.{states, counts, profile_count, successor, reached, IsDeviation}
+use Rattle.game_model.specs.Game.{DynamicGame, states, counts, profile_count, successor, reached, IsDeviation}
 use Rattle.game_model.specs.SelfGeneration.{part, BoundsPoints}
 use Rattle.level_table.specs.Problem.{Problem, direction_count, direction, unit, minus_axis, gain}
 use Rattle.level_table.specs.Levels.{Levels}
@@ -50,11 +50,25 @@ pub record IsCertificate (p : Problem) (keeps : Keeps) (s a : ℕ) (list : List 
   pub negative : added_right_sides p s a list <ℤ pos 0
 
 abbrev pub no_note : Note
-no_note = record { state = 0; reasons = [] }
+no_note = record { state = 0; reasons = record { list = []; spare = 0 } }
 
 -- one of the notes is of state t
 abbrev pub Named : List Note → ℕ → Type 0
 Named notes t = (l : ℕ) × (l < length notes) × ((slice_index_or notes l no_note).state ≡ t)
+
+-- no two notes are of one state
+abbrev pub AreDistinct : List Note → Type 0
+AreDistinct notes = (l m : ℕ) → l < m → m < length notes → (slice_index_or notes l no_note).state ≢ (slice_index_or notes m no_note).state
+
+-- notes as they are kept, how many more can be added without memory, and for how many reasons the list has room that each of these leaves behind
+pub record NoteList : Type 0 where
+  pub list : List Note
+  pub spare : ℕ
+  pub each : ℕ
+
+-- each state's reasons have room
+abbrev pub HasRoomFor : DynamicGame → ℕ → Type 0
+HasRoomFor g n = (s : ℕ) → s < states g → profile_count (counts g s) ≤ n
 
 -- an earlier player, or an earlier strategy of the same
 abbrev pub IsEarlier : ℕ → ℕ → ℕ → ℕ → Type 0
@@ -73,8 +87,8 @@ IsReason p keeps earlier s a (reasons.Farkas list) =
 pub record IsNote (p : Problem) (keeps : Keeps) (earlier : List Note) (note : Note) : Type 0 where
   pub known : note.state < states p.game
   pub new : Named earlier note.state → ⊥
-  pub one_each : length note.reasons ≡ profile_count (counts p.game note.state)
-  pub reasons : (a : ℕ) → a < length note.reasons → IsReason p keeps earlier note.state a (slice_index_or note.reasons a (reasons.Successor 0))
+  pub one_each : length note.reasons.list ≡ profile_count (counts p.game note.state)
+  pub reasons : (a : ℕ) → a < length note.reasons.list → IsReason p keeps earlier note.state a (slice_index_or note.reasons.list a (reasons.Successor 0))
 
 -- Each note is right beside those before it.
 abbrev pub AreNotes : Problem → Keeps → List Note → Type 0

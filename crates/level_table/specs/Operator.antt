@@ -40,6 +40,20 @@ pub record HasValueAbove (p : Problem) (t : Levels) (s k : ℕ) (x : ℤ) : Type
   pub admissible : Admissible p t s profile vector
   pub above : (x *ℤ value_unit p vector) <ℤ value p s profile k vector
 
+-- some profile of the state has an admissible vector
+pub record HasAdmissible (p : Problem) (t : Levels) (s : ℕ) : Type 0 where
+  pub profile : ℕ
+  pub vector : Fractions
+  pub known : profile < profile_count (counts p.game s)
+  pub admissible : Admissible p t s profile vector
+
+-- The vector is admissible after the profile, no admissible value of the state is greater than its own, and each earlier profile's are less.
+pub record IsFirstLargest (p : Problem) (t : Levels) (s k a : ℕ) (y : Fractions) : Type 0 where
+  pub known : a < profile_count (counts p.game s)
+  pub admissible : Admissible p t s a y
+  pub largest : (b : ℕ) (z : Fractions) → b < profile_count (counts p.game s) → Admissible p t s b z → (value p s b k z *ℤ y.denominator) ≤ℤ (value p s a k y *ℤ z.denominator)
+  pub first : (b : ℕ) (z : Fractions) → b < a → Admissible p t s b z → (value p s b k z *ℤ y.denominator) <ℤ (value p s a k y *ℤ z.denominator)
+
 -- The row level is the least whole number that no admissible value is above, and Empty where no profile has an admissible vector.
 abbrev pub IsRowLevel : Problem → Levels → ℕ → ℕ → Level → Type 0
 IsRowLevel p t s k Empty = (a : ℕ) (y : Fractions) → a < profile_count (counts p.game s) → Admissible p t s a y → ⊥

@@ -1,7 +1,8 @@
 -- A game with the directions and the grid in which its payoff sets are bounded.
-use Rattle.std.specs.Prelude.{ℕ, zero, suc, ◌+◌, ◌-◌, ◌*◌, ◌/◌, ◌^◌, ◌<◌, List, [], length, slice_index, slice_index_or, ℤ, pos, ◌+ℤ◌, ◌-ℤ◌, ◌*ℤ◌}
+use Rattle.std.specs.Prelude.{ℕ, zero, suc, ◌+◌, ◌-◌, ◌*◌, ◌/◌, ◌^◌, ◌<◌, ◌≤◌, List, [], length, slice_index, slice_index_or, ℤ, pos, ◌+ℤ◌, ◌-ℤ◌, ◌*ℤ◌}
 use Rattle.std.specs.Int.{int_max}
-use Rattle.game_model.specs.Game.{DynamicGame, states, counts, profile_count, payoff_at, deviation_at, unit_of}
+use Rattle.direction_set.specs.DirectionTable.{DirectionTable, IsDirectionTable}
+use Rattle.game_model.specs.Game.{DynamicGame, IsGame, states, counts, profile_count, payoff_at, deviation_at, unit_of}
 use Rattle.game_model.specs.SelfGeneration.{part, sum_below}
 
 -- Directions are vectors of whole numbers. The first are the axes: 2i is plus axis i, and 2i + 1 is minus axis i.
@@ -9,6 +10,16 @@ pub record Problem : Type 0 where
   pub game : DynamicGame
   pub directions : List (List ℤ)
   pub grid : ℕ
+
+-- a game within its limits, a table of directions for its players, and a grid within its limit
+pub record IsProblem (p : Problem) : Type 0 where
+  pub game : IsGame p.game
+  pub directions : IsDirectionTable p.game.players p.directions
+  pub grid : p.grid ≤ 30
+
+-- the problem of a game, a table of directions and a grid
+abbrev pub problem_of : DynamicGame → DirectionTable → ℕ → Problem
+problem_of g d grid = record { game = g; directions = d.vectors; grid = grid }
 
 abbrev pub direction_count : Problem → ℕ
 direction_count p = length p.directions

@@ -2,8 +2,6 @@
 use Rattle.std.specs.Prelude.{◌≡◌, ℕ, ◌*◌, ◌^◌, ◌<◌, ◌≤◌, length, ℤ, pos, ◌+ℤ◌, unsigned_abs}
 use Rattle.level_table.specs.declared.level.Level.{Level}
 use Rattle.level_table.specs.declared.level.Level.TheVariants.{Empty, At}
-use Rattle.direction_set.specs.DirectionTable.{DirectionTable}
-use Rattle.game_model.specs.Game.{DynamicGame}
 use Rattle.level_table.specs.Problem.{Problem, direction_count, opening_level}
 use Rattle.level_table.specs.Levels.{Table, IsTableOf, IsRow, IsSmall, level_at, levels_in, opening_table}
 
@@ -24,9 +22,13 @@ pub record IsWhole (t : Table) : Type 0 where
   pub few_directions : t.directions ≤ 32
   pub one_each : length t.levels ≡ t.states * t.directions
 
--- the problem of a game, a table of directions and a grid
-abbrev pub problem_of : DynamicGame → DirectionTable → ℕ → Problem
-problem_of g d grid = record { game = g; directions = d.vectors; grid = grid }
+-- The new table is the old one with this level in one row.
+pub record IsPut (old new : Table) (s k : ℕ) (level : Level) : Type 0 where
+  pub states : new.states ≡ old.states
+  pub directions : new.directions ≡ old.directions
+  pub here : levels_in new s k ≡ level
+  pub others : (t j : ℕ) → j < old.directions → (t ≡ s → j ≡ k → ⊥) → levels_in new t j ≡ levels_in old t j
+  pub whole : IsWhole new
 
 -- the opening table of a problem, with each level within its limit
 pub record IsOpening (p : Problem) (t : Table) : Type 0 where
@@ -41,3 +43,13 @@ pub record IsFirstBeyond (p : Problem) (number : ℤ) : Type 0 where
   pub here : number ≡ pos (unsigned_abs (opening_level p direction))
   pub beyond : 2 ^ 50 < unsigned_abs (opening_level p direction)
   pub none_before : (k : ℕ) → k < direction → unsigned_abs (opening_level p k) ≤ 2 ^ 50
+
+-- a table of the problem whose levels are within 2^50 of zero
+pub record IsSmallTable (p : Problem) (t : Table) : Type 0 where
+  pub whole : IsWhole t
+  pub sizes : IsTableOf p t
+  pub small : (s k : ℕ) → IsRow p s k → IsSmall (levels_in t s k)
+
+-- each opening level is within its limit
+abbrev pub HasSmallOpening : Problem → Type 0
+HasSmallOpening p = (k : ℕ) → k < direction_count p → unsigned_abs (opening_level p k) ≤ 2 ^ 50

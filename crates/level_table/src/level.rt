@@ -1,5 +1,6 @@
 ghost use Rattle.std.specs.Prelude.{◌≡◌, ◌≤◌, ◌↔◌, IsTrue};
 ghost use Rattle.level_table.specs.Levels.{AtMost, IsSmall};
+ghost use Rattle.level_table.specs.Levels.{lesser as lesser_level};
 ghost use Rattle.level_table.specs.Tables.{word_at, IsWord};
 
 /// A level of a state in a direction: a whole number in units of `1/E`, or Empty, which is less than
@@ -22,6 +23,13 @@ pub fn at_most(a: Level, b: Level) -> bool
         (Level::At(_), Level::Empty) => false,
         (Level::At(x), Level::At(y)) => x <= y,
     }
+}
+
+/// The lesser of two levels.
+pub fn lesser(a: Level, b: Level) -> Level
+    ensures { result ≡ lesser_level a b }
+{
+    if at_most(a, b) { a } else { b }
 }
 
 /// The word that keeps a level within 2^50 of zero: 0 for Empty, and `x + 2^62` for the number `x`.

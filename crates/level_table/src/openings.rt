@@ -1,8 +1,8 @@
 ghost use Rattle.std.specs.Prelude.{◌≡◌, ℕ, ℤ, ◌-◌, ◌*◌, ◌^◌, ◌<◌, ◌≤◌, ◌↔◌, length, slice_index_or, pos, ◌*ℤ◌, unsigned_abs, IfOk, IfErr};
 ghost use Rattle.game_model.specs.Game.{states, counts, profile_count, payoff_at, unit_of, IsGame};
 ghost use Rattle.game_model.specs.SelfGeneration.{sum_below};
-ghost use Rattle.level_table.specs.Problem.{direction_count, largest, largest_payoff, opening_level};
-ghost use Rattle.level_table.specs.Tables.{problem_of, IsOpening, IsFirstBeyond};
+ghost use Rattle.level_table.specs.Problem.{direction_count, largest, largest_payoff, opening_level, problem_of};
+ghost use Rattle.level_table.specs.Tables.{IsOpening, IsFirstBeyond};
 
 use super::table::LevelTable;
 use direction_set::Directions;

@@ -1,8 +1,8 @@
 ghost use Rattle.level_table.specs.declared.reason.Item.TheVariants as items;
-ghost use Rattle.std.specs.Prelude.{◌≡◌, ◌<◌, [], ◌∷◌, ◌++◌, length, pos, slice_index_or};
+ghost use Rattle.std.specs.Prelude.{◌≡◌, ◌+◌, ◌<◌, [], ◌∷◌, ◌++◌, length, pos, slice_index_or, IfOk};
 
 use arrayvec::ArrayVec;
-use game_model::List;
+use std::alloc::{AllocError, Global};
 use std::marker::Model;
 
 /// A row of a profile's program, with its multiplier in a certificate.
@@ -105,9 +105,72 @@ pub enum Reason {
     },
 }
 
+/// Reasons, with room for some more, for which adding takes no memory. Contracts see the list and how many
+/// more there is room for.
+#[derive(Drop)]
+pub struct ReasonList {
+    items: Vec<Reason>,
+    room: u32,
+}
+
+impl Model for ReasonList {
+    ghost use Rattle.std.specs.Prelude.{◌-◌, ◌<◌, ◌≤◌, ◌^◌, vec_len, vec_capacity};
+    ghost use Rattle.level_table.specs.Room.{Reasons};
+
+    ghost Value = { Reasons };
+
+    ghost view = { λ a. record { list = a.items.items; spare = a.room - vec_len a.items } };
+
+    ghost invariant = { λ a. (vec_len a.items ≤ a.room) × (a.room ≤ vec_capacity a.items) × (a.room < 2 ^ 32) };
+}
+
+impl ReasonList {
+    /// No reasons, with room for `count`.
+    pub fn with_room(alloc: Global, count: u32) -> Result<ReasonList, AllocError>
+        ensures { IfOk result (λ r. r ≡ record { list = []; spare = count }) }
+    {
+        let items = Vec::with_capacity(alloc, count as usize)?;
+        Ok(ReasonList { items, room: count })
+    }
+
+    /// How many reasons there are.
+    pub fn len(&self) -> u32
+        ensures { result ≡ length self.now.list }
+    {
+        self.items.len() as u32
+    }
+
+    /// The reason at `i`.
+    pub fn get(&self, i: u32) -> &Reason
+        requires { i < length self.now.list }
+        ensures { result.now ≡ slice_index_or self.now.list i result.now }
+    {
+        &self.items[i as usize]
+    }
+
+    /// Adds `reason` at the end, where there is room.
+    pub fn push(&mut self, reason: Reason)
+        requires { 0 < self.old.spare }
+        ensures list { self.new.list ≡ self.old.list ++ reason ∷ [] }
+        ensures spare { self.new.spare + 1 ≡ self.old.spare }
+    {
+        match self.items.push(reason) {
+            Ok(()) => {}
+            Err(_) => unreachable!(),
+        }
+    }
+
+    /// Leaves no reasons. Their places are free again.
+    pub fn clear(&mut self)
+        ensures { self.new ≡ record { list = []; spare = length self.old.list + self.old.spare } }
+    {
+        self.items.clear();
+    }
+}
+
 /// A state in which nothing is admissible, with one reason for each of its profiles, in profile order.
 #[derive(Drop)]
 pub struct Note {
     pub state: u32,
-    pub reasons: List<Reason>,
+    pub reasons: ReasonList,
 }

@@ -1,9 +1,9 @@
-ghost use Rattle.std.specs.Prelude.{◌≡◌, ℕ, ◌*◌, ◌%◌, ◌<◌, ◌≤◌, ◌↔◌, length, slice_set, slice_index_or, replicate, pos, IsTrue, IfOk};
+ghost use Rattle.std.specs.Prelude.{◌≡◌, ◌≢◌, ℕ, ◌*◌, ◌%◌, ◌<◌, ◌≤◌, ◌↔◌, length, slice_set, slice_index_or, replicate, pos, IsTrue, IfOk};
 ghost use Rattle.level_table.specs.declared.level.Level.TheVariants.{Empty, At};
-ghost use Rattle.level_table.specs.Levels.{AtMost, level_at, levels_in};
-ghost use Rattle.level_table.specs.Tables.{IsWhole};
+ghost use Rattle.level_table.specs.Levels.{AtMost, IsNumber, lesser, level_at, levels_in};
+ghost use Rattle.level_table.specs.Tables.{IsPut, IsWhole};
 
-use super::level::{Level, at_most};
+use super::level::{Level, at_most, lesser as lesser_of};
 use std::alloc::{AllocError, Global};
 use std::marker::Model;
 
@@ -104,6 +104,62 @@ impl LevelTable {
         ensures { result ≡ level_at self.now row }
     {
         self.levels[row as usize]
+    }
+
+    /// The level of direction `dir` of a state.
+    pub fn at(&self, state: u32, dir: u32) -> Level
+        requires state { state < self.now.states }
+        requires dir { dir < self.now.directions }
+        ensures level { result ≡ levels_in self.now state dir }
+        ensures whole { IsWhole self.now }
+    {
+        self.levels[(state * self.directions + dir) as usize]
+    }
+
+    /// Whether each level of a state is a number.
+    pub fn is_known(&self, state: u32) -> bool
+        requires { state < self.now.states }
+        ensures known { IsTrue result ↔ ((k : ℕ) → k < self.now.directions → IsNumber (levels_in self.now state k)) }
+    {
+        for dir in 0..self.directions {
+            if self.at(state, dir) == Level::Empty {
+                return false;
+            }
+        }
+        true
+    }
+
+    /// Puts `level` in the place of the level of direction `dir` of a state.
+    pub fn put(&mut self, state: u32, dir: u32, level: Level)
+        requires state { state < self.old.states }
+        requires dir { dir < self.old.directions }
+        ensures { IsPut self.old self.new state dir level }
+    {
+        self.set(state * self.directions + dir, level);
+    }
+
+    /// Lowers the level of direction `dir` of a state to `level`, if that is less.
+    pub fn lower(&mut self, state: u32, dir: u32, level: Level)
+        requires state { state < self.old.states }
+        requires dir { dir < self.old.directions }
+        ensures { IsPut self.old self.new state dir (lesser (levels_in self.old state dir) level) }
+    {
+        let old = self.at(state, dir);
+        self.put(state, dir, lesser_of(old, level));
+    }
+
+    /// Makes each level of a state Empty.
+    pub fn clear_state(&mut self, state: u32)
+        requires { state < self.old.states }
+        ensures states { self.new.states ≡ self.old.states }
+        ensures directions { self.new.directions ≡ self.old.directions }
+        ensures cleared { (k : ℕ) → k < self.old.directions → levels_in self.new state k ≡ Empty }
+        ensures others { (t k : ℕ) → t ≢ state → k < self.old.directions → levels_in self.new t k ≡ levels_in self.old t k }
+        ensures whole { IsWhole self.new }
+    {
+        for dir in 0..self.directions {
+            self.put(state, dir, Level::Empty);
+        }
     }
 
     /// Puts `level` in the place of the row's level.

@@ -5,8 +5,7 @@ use Rattle.std.proofs.lemmas.Int.{to_z-of_z}
 use Rattle.std.proofs.lemmas.List.{get_or_default}
 use Rattle.direction_set.specs.DirectionTable.{zero_vector}
 use Rattle.game_model.specs.SelfGeneration.{part, sum_below}
-use Rattle.level_table.specs.Problem.{largest_payoff, opening_level}
-use Rattle.level_table.specs.Tables.{problem_of}
+use Rattle.level_table.specs.Problem.{largest_payoff, opening_level, problem_of}
 use Rattle.level_table.proofs.Sizes.{abs_product, product_is}
 use Rattle.level_table.proofs.openings.level_in.Goals as goal
 

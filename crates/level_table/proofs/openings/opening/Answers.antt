@@ -1,5 +1,5 @@
 -- the table repeats the opening levels
-use Rattle.level_table.specs.Tables.{problem_of}
+use Rattle.level_table.specs.Problem.{problem_of}
 use Rattle.level_table.proofs.OpeningLemmas.{IsOpening-uniform}
 use Rattle.level_table.proofs.openings.opening.Goals as goal
 

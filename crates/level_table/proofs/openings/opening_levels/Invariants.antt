@@ -1,7 +1,6 @@
 use Rattle.std.proofs.Common.{◌≡◌, ℕ, ◌^◌, ◌<◌, ◌≤◌, get_or, pos, length}
 use Rattle.std.specs.Int.RustNames.{unsigned_abs}
-use Rattle.level_table.specs.Problem.{opening_level}
-use Rattle.level_table.specs.Tables.{problem_of}
+use Rattle.level_table.specs.Problem.{opening_level, problem_of}
 use Rattle.level_table.proofs.openings.opening_levels.Given as goal
 
 abbrev pub invariant-loop-k : goal.invariant-loop-k
