@@ -1,0 +1,13 @@
+pub mod Fits
+pub mod Items
+pub mod Mosts
+pub mod Openings
+pub mod Points
+pub mod PreparedLemmas
+pub mod Programs
+pub mod Scales
+pub mod SearchLemmas
+pub mod Sources
+pub mod Strides
+pub mod ValueSizes
+pub mod Values

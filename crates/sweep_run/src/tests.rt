@@ -1,0 +1,60 @@
+ghost use Rattle.std.specs.Prelude.{◌≡◌, IfOk};
+ghost use Rattle.game_model.specs.Parts.{shape_of};
+ghost use Rattle.game_model.specs.Worked.{prisoners};
+
+use super::*;
+use direction_set::Directions;
+use game_model::{Game, GameParts};
+use level_table::{Level, Problem, opening};
+use set_operator::Verdict;
+use std::alloc::{AllocError, Global};
+use std::test::Fail;
+
+/// The parts of the prisoner's dilemma at discount factor 1/2.
+fn dilemma(alloc: Global) -> Result<GameParts, AllocError>
+    ensures { IfOk result (λ p. shape_of p ≡ prisoners 1 2) }
+{
+    let sizes = vec![in alloc; 2, 2]?;
+    let payoffs = vec![in alloc; 2, 2, 3, 0, 0, 3, 1, 1]?;
+    let next = vec![in alloc; 0, 0, 0, 0]?;
+    Ok(GameParts {
+        players: 2,
+        strategies: vec![in alloc; sizes]?,
+        payoffs: vec![in alloc; payoffs]?,
+        next: vec![in alloc; next]?,
+        denominator: 1,
+        discounts: vec![in alloc; 1, 1]?,
+        q: 2,
+    })
+}
+
+#[test]
+fn the_dilemma_comes_down(rt: HostRuntime) -> Result<(), Fail> {
+    let parts = dilemma(rt.alloc())?;
+    let game = Game::build(parts).ok().ok_or("the parts fit")?;
+    let dirs = Directions::of(2, 4).ok_or("two players have four directions")?;
+    assert_eq!(rt; game.players(), 2);
+    assert_eq!(rt; dirs.players(), 2);
+    let p = Problem::new(&game, &dirs, 4);
+    for (budget, sweeps, low) in [
+        (0, 0, 0),
+        (3, 0, 0),
+        (4, 1, -8),
+        (8, 2, -12),
+        (15, 3, -14),
+        (16, 4, -15),
+        (1000, 4, -15),
+    ] {
+        let start = opening(rt.alloc(), &game, &dirs, 4)?;
+        let run = run_sweeps(rt.alloc(), &p, start, 1, budget)?;
+        assert_eq!(rt; run.sweeps, sweeps);
+        assert_eq!(rt; run.notes.len(), 0);
+        for (row, level) in [(0, 48), (1, low), (2, 48), (3, low)] {
+            assert!(rt; row < run.levels.rows());
+            assert_eq!(rt; run.levels.get(row), Level::At(level), "row {row}");
+        }
+        let settled = matches!(&run.verdict, Verdict::Supported(_));
+        assert_eq!(rt; settled, low == -15);
+    }
+    Ok(())
+}
