@@ -15,7 +15,7 @@ starts_with_digit : (ds rest : List ℕ) → IsNumeral 10 ds → get_or (ds ++ r
 starts_with_digit [] rest h e = absurd (let l = h.0 in omega arith)
 starts_with_digit (d ∷ ds) rest h e = let k = ap digit_value e in omega (arith, h.1.0)
 
-unsigned_start : (f : Form) → IsForm f → get_or (form_text f) 0 0 ≡ 45 → ⊥
+pub unsigned_start : (f : Form) → IsForm f → get_or (form_text f) 0 0 ≡ 45 → ⊥
 unsigned_start (whole []) h e = absurd (let l = h.0 in omega arith)
 unsigned_start (whole (d ∷ ds)) h e = let k = ap digit_value e in omega (arith, h.1.0)
 unsigned_start (decimal [] es) h e = absurd (omega arith)
@@ -27,7 +27,7 @@ pub record IsSigned (token text : List ℕ) (negative : Bool) : Type 0 where
   pub text_is : token ≡ signed_text negative text
   pub plain : IsTrue negative ⊎ (get_or token 0 0 ≢ 45)
 
-same_text : (a : Bool) (f : Form) (text : List ℕ) (b : Bool) → IsForm f → signed_text a (form_text f) ≡ signed_text b text
+pub same_text : (a : Bool) (f : Form) (text : List ℕ) (b : Bool) → IsForm f → signed_text a (form_text f) ≡ signed_text b text
     → (IsTrue b ⊎ (get_or (signed_text b text) 0 0 ≢ 45)) → (a ≡ b) × (form_text f ≡ text)
 same_text true f text true h e p = (refl, cc)
 same_text true f text false h e p =

@@ -1,5 +1,5 @@
 -- How numbers are spelled: a whole number, a decimal or a fraction, with `-` before it or nothing.
-use Rattle.std.specs.Prelude.{◌≡◌, ℕ, ◌+◌, ◌^◌, ◌<◌, ◌≢◌, ℤ, pos, Bool, true, false, List, ◌∷◌, ◌++◌, length, count_by, Any}
+use Rattle.std.specs.Prelude.{◌≡◌, ℕ, ◌+◌, ◌^◌, ◌<◌, ◌≤◌, ◌≢◌, ℤ, pos, Bool, true, false, List, ◌∷◌, ◌++◌, length, count_by, Any}
 use Rattle.std.specs.Char.{is_ascii_digit}
 use Rattle.std.specs.Str.Parse.{AllDigits, IsNumeral, digits_value}
 use lib.IntN.{neg_ℤ}
@@ -61,3 +61,9 @@ spelled_den s = pos (form_den s.form)
 -- how many digits a token has, leading zeros too
 abbrev pub digit_count : List ℕ → ℕ
 digit_count token = count_by is_ascii_digit token
+
+-- 1 to 18 decimal digits that write n, leading zeros too
+pub record SpellsWhole (text : List ℕ) (n : ℕ) : Type 0 where
+  pub numeral : IsNumeral 10 text
+  pub few : length text ≤ 18
+  pub value : n ≡ digits_value 10 text

@@ -2,9 +2,9 @@
 
 ghost use Rattle.pay_frac.specs.Reading.{FormGives, ReadsAs};
 ghost use Rattle.pay_frac.specs.Ratio.{Equals, IsLowest};
-ghost use Rattle.pay_frac.specs.Spelling.{Form, IsForm, Spelling, Spells, decimal, digit_count, form_text, fraction, signed_num, signed_text, spelled_den, spelled_num, whole};
+ghost use Rattle.pay_frac.specs.Spelling.{Form, IsForm, Spelling, Spells, SpellsWhole, decimal, digit_count, form_text, fraction, signed_num, signed_text, spelled_den, spelled_num, whole};
 ghost use Rattle.std.specs.Char.{digit_value};
-ghost use Rattle.std.specs.Prelude.{◌+◌, ◌<◌, ◌^◌, ◌↔◌, ◌≡◌, ◌≢◌, ◌≤◌, ◌⊎◌, Any, Err, IsOkAnd, IsTrue, length, pos, slice_index, take};
+ghost use Rattle.std.specs.Prelude.{◌+◌, ◌<◌, ◌^◌, ◌↔◌, ◌≡◌, ◌≢◌, ◌≤◌, ◌⊎◌, ℕ, Any, Err, IfNone, IfSome, IsOkAnd, IsTrue, length, pos, slice_index, take};
 ghost use Rattle.std.specs.Str.Parse.{AllDigits, digits_value_after};
 
 use crate::fractions::Frac;
@@ -12,6 +12,9 @@ use thiserror::Error;
 
 /// The most digits that a number may have.
 const MOST_DIGITS: usize = 36;
+
+/// The most digits of a whole number of 64 bits.
+const MOST_WHOLE_DIGITS: usize = 18;
 
 /// Why a token gives no fraction.
 #[derive(Clone, Copy, Debug, PartialEq, Eq, Error)]
@@ -168,4 +171,15 @@ pub fn read_number(token: &[u8]) -> Result<Frac, NumberFault>
     let (negative, text) = split_sign(token);
     let (num, den) = read_unsigned(text)?;
     Ok(signed(negative, num, den))
+}
+
+/// The whole number that 1 to 18 decimal digits write, leading zeros counted too; nothing else is one.
+pub fn read_digits(text: &[u8]) -> Option<u64>
+    ensures some { IfSome result (SpellsWhole text.now) }
+    ensures none { IfNone result ((n : ℕ) → SpellsWhole text.now n → ⊥) }
+{
+    if text.is_empty() || text.len() > MOST_WHOLE_DIGITS || !are_digits(text) {
+        return None;
+    }
+    Some(digits_after(0, text, 0) as u64)
 }

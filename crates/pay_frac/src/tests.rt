@@ -42,3 +42,18 @@ fn spellings(rt: HostRuntime) {
         Err(NumberFault::Beyond { digits: 37 })
     );
 }
+
+#[test]
+fn digits(rt: HostRuntime) {
+    for (text, value) in [
+        ("0", Some(0)),
+        ("000000000000000015", Some(15)),
+        ("999999999999999999", Some(999_999_999_999_999_999)),
+        ("0000000000000000015", None),
+        ("", None),
+        ("+1", None),
+        ("1.", None),
+    ] {
+        assert_eq!(rt; read_digits(text.as_bytes()), value, "{text}");
+    }
+}

@@ -1,0 +1,120 @@
+-- The words `name=value`, and the settings that they give.
+use Rattle.std.specs.Prelude.{◌≡◌, ◌≢◌, ◌⊎◌, ◌↔◌, ℕ, ◌+◌, ◌<◌, ◌≤◌, ◌++◌, ◌==◌, List, ◌∷◌, length, take, codes, pos, ◌<ℤ◌, Some, None, IfSome, All, AllPairs, Any}
+use Rattle.std.specs.List.{before_first}
+use Rattle.pay_frac.specs.Ratio.{Ratio, IsLowest, Equals}
+use Rattle.pay_frac.specs.Spelling.{Spelling, Spells, SpellsWhole, digit_count, spelled_num, spelled_den}
+use Rattle.pay_words.specs.declared.options.Setting.{Setting}
+use Rattle.pay_words.specs.declared.options.Setting.TheVariants.{Discount, Directions, Workers, Budget, Grid, Slack, Inner}
+use Rattle.pay_words.specs.declared.options.Settings.{Settings}
+use Rattle.pay_words.specs.declared.options.TheConstants.{MOST_WORKERS, MOST_INNER}
+
+-- the name of a setting
+abbrev pub name_of : Setting → List ℕ
+name_of (Discount d) = codes "discount"
+name_of (Directions n) = codes "directions"
+name_of (Workers n) = codes "workers"
+name_of (Budget n) = codes "budget"
+name_of (Grid n) = codes "grid"
+name_of (Slack n) = codes "slack"
+name_of (Inner n) = codes "inner"
+
+-- The text is a number of at most 36 digits, above 0 and below 1: this one, in lowest terms.
+pub record IsDiscount (text : List ℕ) (d : Ratio) : Type 0 where
+  pub spelling : Spelling
+  pub spells : Spells text spelling
+  pub few : digit_count text ≤ 36
+  pub value : Equals d (spelled_num spelling) (spelled_den spelling)
+  pub lowest : IsLowest d
+  pub above : pos 0 <ℤ d.num
+  pub below : d.num <ℤ d.den
+
+-- 1 to 18 digits that write n, and it lies within these bounds
+pub record IsWithin (least most : ℕ) (text : List ℕ) (n : ℕ) : Type 0 where
+  pub spells : SpellsWhole text n
+  pub from : least ≤ n
+  pub upto : n ≤ most
+
+-- 1 to 18 digits that write a number of directions
+pub record IsDirections (text : List ℕ) (n : ℕ) : Type 0 where
+  pub spells : SpellsWhole text n
+  pub count : (n ≡ 4) ⊎ (n ≡ 8) ⊎ (n ≡ 16) ⊎ (n ≡ 32)
+
+-- the text is the value of a setting
+abbrev pub IsValue : Setting → List ℕ → Type 0
+IsValue (Discount d) text = IsDiscount text d
+IsValue (Directions n) text = IsDirections text n
+IsValue (Workers n) text = IsWithin 1 MOST_WORKERS text n
+IsValue (Budget n) text = IsWithin 0 1000000000000000 text n
+IsValue (Grid n) text = IsWithin 0 30 text n
+IsValue (Slack n) text = IsWithin 1 1000000000 text n
+IsValue (Inner n) text = IsWithin 0 MOST_INNER text n
+
+-- the word is a setting's name, `=` (61), and its value
+pub record IsSetting (word : List ℕ) (s : Setting) : Type 0 where
+  pub text : List ℕ
+  pub shape : word ≡ name_of s ++ 61 ∷ text
+  pub value : IsValue s text
+
+-- a word's name ends at the first `=`
+abbrev pub name_in : List ℕ → List ℕ
+name_in word = before_first (λ b. b == 61) word
+
+-- Each word is a setting, and no two have the same name.
+pub record AreOptions (words : List (List ℕ)) : Type 0 where
+  pub each : All (λ w. (s : Setting) × IsSetting w s) words
+  pub once : AllPairs (λ v w. name_in v ≢ name_in w) words
+
+-- the settings where no word says otherwise
+abbrev pub usual_settings : Settings
+usual_settings = record {
+  discount = record { num = pos 9; den = pos 10 };
+  directions = None;
+  workers = 1;
+  budget = 1000000;
+  grid = 16;
+  slack = 1;
+  inner = None;
+}
+
+-- this setting is among the settings
+abbrev pub Holds : Settings → Setting → Type 0
+Holds set (Discount d) = set.discount ≡ d
+Holds set (Directions n) = set.directions ≡ Some n
+Holds set (Workers n) = set.workers ≡ n
+Holds set (Budget n) = set.budget ≡ n
+Holds set (Grid n) = set.grid ≡ n
+Holds set (Slack n) = set.slack ≡ n
+Holds set (Inner n) = set.inner ≡ Some n
+
+-- Each setting is that of the word with its name, and the usual one where no word has it.
+pub record AreSettings (words : List (List ℕ)) (set : Settings) : Type 0 where
+  pub given : (s : Setting) → Any (λ w. IsSetting w s) words → Holds set s
+  pub usual : (s : Setting) → All (λ w. name_in w ≢ name_of s) words → Holds set s ↔ Holds usual_settings s
+
+-- the numbers of settings lie within their limits
+pub record AreWithinLimits (set : Settings) : Type 0 where
+  pub lowest : IsLowest set.discount
+  pub above_zero : pos 0 <ℤ set.discount.num
+  pub below_one : set.discount.num <ℤ set.discount.den
+  pub directions : IfSome set.directions (λ n. (n ≡ 4) ⊎ (n ≡ 8) ⊎ (n ≡ 16) ⊎ (n ≡ 32))
+  pub some_worker : 1 ≤ set.workers
+  pub grid : set.grid ≤ 30
+  pub some_slack : 1 ≤ set.slack
+
+-- the settings with one put in its place
+abbrev pub with_setting : Settings → Setting → Settings
+with_setting set (Discount d) = record set { discount = d }
+with_setting set (Directions n) = record set { directions = Some n }
+with_setting set (Workers n) = record set { workers = n }
+with_setting set (Budget n) = record set { budget = n }
+with_setting set (Grid n) = record set { grid = n }
+with_setting set (Slack n) = record set { slack = n }
+with_setting set (Inner n) = record set { inner = Some n }
+
+-- Word i is the first that is no setting or has the name of an earlier one.
+pub record IsFirstWrong (words : List (List ℕ)) (i : ℕ) : Type 0 where
+  pub there : i < length words
+  pub before : AreOptions (take i words)
+  pub settings : Settings
+  pub given : AreSettings (take i words) settings
+  pub wrong : AreOptions (take (i + 1) words) → ⊥

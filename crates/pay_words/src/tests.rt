@@ -1,0 +1,104 @@
+use super::*;
+use std::alloc::Global;
+use std::test::Fail;
+
+fn words_of(alloc: Global, line: &str) -> Result<Vec<String>, Fail> {
+    let mut words = Vec::new(alloc);
+    for word in line.split_whitespace() {
+        words.push(String::from_str(alloc, word)?)?;
+    }
+    Ok(words)
+}
+
+#[test]
+fn misfits(rt: HostRuntime) -> Result<(), Fail> {
+    for (line, index) in [
+        ("", 0),
+        ("solved pd.nfg", 0),
+        ("solve", 1),
+        ("solve pd.nfg discount=1", 2),
+        ("solve pd.nfg discount=0", 2),
+        ("solve pd.nfg discount=-1/2", 2),
+        ("solve pd.nfg discount=", 2),
+        ("solve pd.nfg workers=0", 2),
+        ("solve pd.nfg slack=1 slack=2", 3),
+        ("solve pd.nfg grid=31", 2),
+        ("solve pd.nfg slack=0", 2),
+        ("solve pd.nfg slack=1000000001", 2),
+        ("solve pd.nfg grid=4 budget=1000000000000001", 3),
+        ("solve pd.nfg budget=0000000000000000015", 2),
+        ("solve pd.nfg budget=", 2),
+        ("solve pd.nfg budget", 2),
+        ("solve pd.nfg budgets=1", 2),
+        ("solve pd.nfg budget=1=1", 2),
+        ("solve pd.nfg directions=6", 2),
+        ("solve pd.nfg inner=0 directions=16 inner=1", 4),
+        ("solve pd.nfg inner=1 inner=1", 2),
+    ] {
+        let words = words_of(rt.alloc(), line)?;
+        assert!(rt; words.len() < 100);
+        assert_eq!(rt; command_of(&words), Err(UsageFault { index }), "{line}");
+    }
+    Ok(())
+}
+
+#[test]
+fn commands(rt: HostRuntime) -> Result<(), Fail> {
+    for (line, discount, directions, budget, grid, slack, inner) in [
+        ("solve pd.nfg", (9, 10), None, 1_000_000, 16, 1, None),
+        (
+            "solve pd.nfg discount=1/2000",
+            (1, 2000),
+            None,
+            1_000_000,
+            16,
+            1,
+            None,
+        ),
+        (
+            "solve pd.nfg discount=.9 budget=1000000000000000",
+            (9, 10),
+            None,
+            1_000_000_000_000_000,
+            16,
+            1,
+            None,
+        ),
+        (
+            "solve pd.nfg discount=1/2 directions=4 grid=4 workers=1 inner=0 budget=15 slack=1000000000",
+            (1, 2),
+            Some(4),
+            15,
+            4,
+            1_000_000_000,
+            Some(0),
+        ),
+        (
+            "solve pd.nfg slack=01000000000 budget=000000000000000015 inner=0 workers=01 grid=04 directions=4 discount=.50",
+            (1, 2),
+            Some(4),
+            15,
+            4,
+            1_000_000_000,
+            Some(0),
+        ),
+    ] {
+        let words = words_of(rt.alloc(), line)?;
+        assert!(rt; words.len() < 100);
+        match command_of(&words) {
+            Ok(Command::Solve { file, set }) => {
+                assert_eq!(rt; file, "pd.nfg", "{line}");
+                assert_eq!(rt; set.discount.num(), discount.0, "{line}");
+                assert_eq!(rt; set.discount.den(), discount.1, "{line}");
+                assert_eq!(rt; set.directions, directions, "{line}");
+                assert_eq!(rt; set.workers, 1, "{line}");
+                assert_eq!(rt; set.budget, budget, "{line}");
+                assert_eq!(rt; set.grid, grid, "{line}");
+                assert_eq!(rt; set.slack, slack, "{line}");
+                assert_eq!(rt; set.inner, inner, "{line}");
+            }
+            Err(fault) => assert!(rt; false, "word {} of {line}", fault.index),
+        }
+    }
+    Ok(())
+}
