@@ -1,12 +1,15 @@
 #!/bin/sh
-# Times the built program over the example games, a line a game. It is no test.
+# Times the built program over the example games in 4 and in 16 directions, a line each. It is no test.
 top=$(CDPATH='' cd -- "$(dirname -- "$0")/.." && pwd) || exit 1
 program=$top/crates/payoff_cli/out/payoff_cli
 [ -x "$program" ] || "$top/payoff" solve >/dev/null 2>&1 # a missing word: builds, and is refused
-[ -x "$program" ] || { echo 'bench: build the program first: ./payoff solve examples/pd.nfg discount=1/2 directions=4 grid=4 workers=1 inner=0' >&2; exit 1; }
-words='discount=1/2 directions=4 grid=4 workers=1 inner=0'
-for game in "$top"/examples/*.nfg; do
-    name=$(basename "$game")
+[ -x "$program" ] || { echo 'bench: build the program first: ./payoff solve examples/pd.nfg' >&2; exit 1; }
+
+# The time of one run of a game in so many directions.
+measure() {
+    game=$1
+    words="discount=1/2 directions=$2"
+    name="$(basename "$game") $words"
     if command -v hyperfine >/dev/null 2>&1; then
         # shellcheck disable=SC2086
         hyperfine --style none --shell=none --ignore-failure --warmup 3 --export-csv /tmp/payoff-bench.$$ "$program solve $game $words" >/dev/null 2>&1
@@ -23,4 +26,10 @@ for game in "$top"/examples/*.nfg; do
         end=$(date +%s%N)
         printf '%s %s us\n' "$name" $(((end - start) / 20000))
     fi
+}
+
+for game in "$top"/examples/*.nfg; do
+    for directions in 4 16; do
+        measure "$game" $directions
+    done
 done

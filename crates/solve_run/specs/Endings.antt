@@ -1,12 +1,38 @@
 -- How the program tells a status: a line on standard error, and an exit.
 use Rattle.std.specs.Prelude.{ℕ, List, ◌++◌, codes, decimal, Option, Some, None}
+use Rattle.std.specs.Fmt.{signed_decimal}
+use Rattle.nfg_text.specs.declared.what.What.{What}
+use Rattle.nfg_text.specs.declared.what.What.TheVariants as whats
 use Rattle.solve_run.specs.declared.outcome.FileId.{FileId}
 use Rattle.solve_run.specs.declared.outcome.FileId.TheVariants.{First}
 use Rattle.solve_run.specs.declared.outcome.Status.{Status}
-use Rattle.solve_run.specs.declared.outcome.Status.TheVariants.{Settled, Usage, Spent, BadInput, TooLong, ReadFault, WriteFault, NoMemory}
+use Rattle.solve_run.specs.declared.outcome.Status.TheVariants.{Settled, Usage, Spent, BadInput, TooLong, ReadFault, Beyond, WriteFault, NoMemory}
 
 abbrev pub file_text : FileId → List ℕ
 file_text First = codes "first file"
+
+-- a quantity in small letters
+abbrev pub what_text : What → List ℕ
+what_text whats.Digits = codes "digits"
+what_text whats.Players = codes "players"
+what_text whats.Strategies = codes "strategies"
+what_text whats.States = codes "states"
+what_text whats.Whole = codes "whole"
+what_text whats.Discount = codes "discount"
+what_text whats.Denominator = codes "denominator"
+what_text whats.Payoff = codes "payoff"
+what_text whats.Opening = codes "opening"
+what_text whats.Outcomes = codes "outcomes"
+what_text whats.Weight = codes "weight"
+what_text whats.Entries = codes "entries"
+what_text whats.Common = codes "common"
+what_text whats.Point = codes "point"
+what_text whats.Directions = codes "directions"
+what_text whats.Inner = codes "inner"
+what_text whats.Start = codes "start"
+what_text whats.Solid = codes "solid"
+what_text whats.Candidates = codes "candidates"
+what_text whats.Log = codes "log"
 
 abbrev pub told : List ℕ → Option (List ℕ)
 told text = Some (codes "payoff: " ++ text)
@@ -19,6 +45,7 @@ line_text (Usage index) = told (codes "word " ++ decimal index ++ codes " is not
 line_text (BadInput file at) = told (file_text file ++ codes " is not valid at byte " ++ decimal at)
 line_text (TooLong file) = told (file_text file ++ codes " is too long")
 line_text (ReadFault file) = told (file_text file ++ codes " cannot be read")
+line_text (Beyond what number) = told (what_text what ++ codes " is beyond its limit: " ++ signed_decimal number)
 line_text (WriteFault written) = told (codes "output failed after " ++ decimal written ++ codes " bytes")
 line_text NoMemory = told (codes "out of memory")
 
@@ -28,6 +55,7 @@ exit_code (Usage index) = 2
 exit_code (Spent sweeps row) = 3
 exit_code (BadInput file at) = 4
 exit_code (TooLong file) = 5
+exit_code (Beyond what number) = 5
 exit_code (ReadFault file) = 6
 exit_code (WriteFault written) = 7
 exit_code NoMemory = 8

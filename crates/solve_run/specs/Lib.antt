@@ -1,9 +1,6 @@
-pub mod Axes
 pub mod Endings
 pub mod PlainGame
-pub mod Reasons
-pub mod ReportText
+pub mod Refusals
 pub mod Run
 pub mod Solved
-pub mod Sweeps
-pub mod Words
+pub mod Writing

@@ -2,9 +2,10 @@
 
 ghost use Rattle.std.specs.Prelude.{◌≡◌, IfOk, string_bytes};
 ghost use Rattle.std.specs.Option.{option_map};
-ghost use Rattle.solve_run.specs.Endings.{exit_code, file_text, line_text};
+ghost use Rattle.solve_run.specs.Endings.{exit_code, file_text, line_text, what_text};
 
 use crate::outcome::{FileId, Status};
+use nfg_text::What;
 use std::alloc::{AllocError, Global};
 
 /// The line on standard error, without its line feed, where the status has one.
@@ -28,6 +29,10 @@ pub fn line_of(alloc: Global, status: Status) -> Result<Option<String>, AllocErr
             let file = name_of(file);
             Ok(Some(format!(in alloc; "payoff: {file} cannot be read")?))
         }
+        Status::Beyond { what, number } => {
+            let what = words_of(what);
+            Ok(Some(format!(in alloc; "payoff: {what} is beyond its limit: {number}")?))
+        }
         Status::WriteFault { written } => {
             Ok(Some(format!(in alloc; "payoff: output failed after {written} bytes")?))
         }
@@ -44,6 +49,34 @@ fn name_of(file: FileId) -> &'static str
     }
 }
 
+/// The name of a quantity in a line.
+fn words_of(what: What) -> &'static str
+    ensures { result.now ≡ what_text what }
+{
+    match what {
+        What::Digits => "digits",
+        What::Players => "players",
+        What::Strategies => "strategies",
+        What::States => "states",
+        What::Whole => "whole",
+        What::Discount => "discount",
+        What::Denominator => "denominator",
+        What::Payoff => "payoff",
+        What::Opening => "opening",
+        What::Outcomes => "outcomes",
+        What::Weight => "weight",
+        What::Entries => "entries",
+        What::Common => "common",
+        What::Point => "point",
+        What::Directions => "directions",
+        What::Inner => "inner",
+        What::Start => "start",
+        What::Solid => "solid",
+        What::Candidates => "candidates",
+        What::Log => "log",
+    }
+}
+
 /// The exit of the program.
 pub fn exit_of(status: Status) -> u8
     ensures { result ≡ exit_code status }
@@ -54,6 +87,7 @@ pub fn exit_of(status: Status) -> u8
         Status::Spent { .. } => 3,
         Status::BadInput { .. } => 4,
         Status::TooLong { .. } => 5,
+        Status::Beyond { .. } => 5,
         Status::ReadFault { .. } => 6,
         Status::WriteFault { .. } => 7,
         Status::NoMemory => 8,
@@ -90,6 +124,14 @@ mod tests {
                 Status::ReadFault { file },
                 Some("payoff: first file cannot be read"),
                 6,
+            ),
+            (
+                Status::Beyond {
+                    what: What::Opening,
+                    number: 1_125_900_980_584_448,
+                },
+                Some("payoff: opening is beyond its limit: 1125900980584448"),
+                5,
             ),
             (
                 Status::WriteFault { written: 7 },

@@ -1,4 +1,5 @@
-use crate::report::Report;
+use nfg_text::What;
+use report_text::Report;
 
 /// Which file.
 #[derive(Clone, Copy, Debug, PartialEq, Eq)]
@@ -24,6 +25,8 @@ pub enum Status {
     TooLong { file: FileId },
     /// The file can't be read.
     ReadFault { file: FileId },
+    /// The number passes the limit of this quantity.
+    Beyond { what: What, number: i128 },
     /// Only so many bytes of the text could be written.
     WriteFault { written: u64 },
     /// Memory ran out.

@@ -1,21 +1,23 @@
 //! The top call.
 
-ghost use Rattle.std.specs.Prelude.{◌≡◌, ℕ, ◌<◌, ◌^◌, ◌≤ℤ◌, length, pos, IfOk, IfErr};
-ghost use Rattle.solve_run.specs.PlainGame.{IsSmallDiscount};
-ghost use Rattle.solve_run.specs.ReportText.{IsPrintable};
-ghost use Rattle.solve_run.specs.Run.{Causes, IsAnswer, IsCause, IsFileFault, IsComplete, IsFileOf, IsSmallNumber, IsStatusOf, IsWritten, file_name, load_of, taking_of};
-ghost use Rattle.solve_run.specs.Words.{IsMisfit, words_in};
+ghost use Rattle.std.specs.Prelude.{◌≡◌, ℕ, ◌<◌, ◌^◌, length, IfOk, IfErr, OnOk};
+ghost use Rattle.pay_words.specs.Command.{IsMisfit, words_in};
+ghost use Rattle.pay_words.specs.Options.{AreWithinLimits};
+ghost use Rattle.report_text.specs.ReportText.{IsPrintable};
+ghost use Rattle.solve_run.specs.Refusals.{AsksFor, IsCause, IsFileFault, IsFileOf, file_name, load_of, set_in};
+ghost use Rattle.solve_run.specs.Run.{Causes, IsAnswer, IsComplete, IsStatusOf, IsWritten};
+ghost use Rattle.solve_run.specs.Writing.{taking_of};
 
 use crate::outcome::{FileId, Outcome, Status};
-use crate::report::{Report, Verdict};
+use crate::refusal::Refusal;
 use crate::solve::report_of;
-use crate::text::text_of;
-use crate::words::settings_of;
 use crate::write::put_all;
 use nfg_text::{Nfg, NfgFault, read_nfg};
-use pay_frac::Frac;
 use pay_outside::{Gate, Shelf, ShelfFault, Sink};
-use std::alloc::{AllocError, Global};
+use pay_words::{Command, Settings, UsageFault, command_laws, command_of};
+use report_text::{Report, text_of};
+use set_operator::Verdict;
+use std::alloc::Global;
 use std::thread::Threads;
 
 /// How many bytes a game's file may have.
@@ -46,9 +48,10 @@ pub fn payoff_run<R: Threads + Sync, S: Shelf, K: Sink, G: Gate + Sync>(
         result.status }
     ensures misfit { (index : ℕ) → IsMisfit (words_in words.now) index → result.status ≡ Status.Usage index }
 {
+    command_laws();
     match solve(alloc, words, shelf) {
-        Err(status) => Outcome {
-            status,
+        Err(refusal) => Outcome {
+            status: refusal.status(),
             report: None,
         },
         Ok(report) => finish(alloc, sink, report),
@@ -60,21 +63,24 @@ fn finish<K: Sink>(alloc: Global, sink: &mut K, report: Report) -> Outcome
     requires printable { IsPrintable report }
     ensures wrote { IsWritten report (taking_of K.taken K.faults sink.old sink.new) result.report result.status }
 {
-    match text_of(alloc, &report) {
-        Err(_) => Outcome {
-            status: Status::NoMemory,
-            report: None,
-        },
-        Ok(text) => {
-            let status = match put_all(sink, &text) {
-                Err(written) => Status::WriteFault { written },
-                Ok(()) => status_of(&report),
+    let text = match text_of(alloc, &report) {
+        Ok(text) => text,
+        Err(_) => {
+            return Outcome {
+                status: Status::NoMemory,
+                report: None,
             };
-            Outcome {
-                status,
-                report: Some(report),
-            }
         }
+    };
+    match put_all(sink, &text) {
+        Err(written) => Outcome {
+            status: Status::WriteFault { written },
+            report: Some(report),
+        },
+        Ok(()) => Outcome {
+            status: status_of(&report),
+            report: Some(report),
+        },
     }
 }
 
@@ -92,7 +98,7 @@ fn status_of(report: &Report) -> Status
 }
 
 /// The report that the words ask for, or why there is none.
-fn solve<S: Shelf>(alloc: Global, words: &[String], shelf: &mut S) -> Result<Report, Status>
+fn solve<S: Shelf>(alloc: Global, words: &[String], shelf: &mut S) -> Result<Report, Refusal>
     requires few_words { length words.now < 2 ^ 32 }
     requires may_ask { 1 < length words.now → S.may_ask shelf.old (file_name (words_in words.now)) }
     ensures found { IfOk result (λ report. IsAnswer (words_in words.now) (S.bytes shelf.old (file_name (words_in words.now))) report) }
@@ -103,13 +109,34 @@ fn solve<S: Shelf>(alloc: Global, words: &[String], shelf: &mut S) -> Result<Rep
 {
     let set = match settings_of(words) {
         Ok(set) => set,
-        Err(fault) => return Err(Status::Usage { index: fault.index }),
+        Err(fault) => return Err(Refusal::Usage { index: fault.index }),
     };
-    let file = read_file(alloc, name_in(words), shelf)?;
-    let (p, q) = small_discount(&set.discount);
-    match report_of(alloc, &file, &set, p, q) {
-        Ok(report) => Ok(report),
-        Err(_) => Err(Status::NoMemory),
+    match read_file(alloc, name_in(words), shelf) {
+        Err(refusal) => Err(refusal),
+        Ok(game) => report_of(alloc, &game, &set),
+    }
+}
+
+/// The settings that the words ask for.
+fn settings_of(words: &[String]) -> Result<Settings, UsageFault>
+    requires { length words.now < 2 ^ 32 }
+    ensures asks { IfOk result (AsksFor (words_in words.now)) }
+    ensures file { OnOk result (1 < length words.now) }
+    ensures limits { IfOk result AreWithinLimits }
+    ensures misfit { IfErr result (λ f. IsMisfit (words_in words.now) f.index) }
+{
+    match command_of(words) {
+        Ok(command) => Ok(set_of(&command)),
+        Err(fault) => Err(fault),
+    }
+}
+
+/// The settings of a command.
+fn set_of(command: &Command) -> Settings
+    ensures { result ≡ set_in command.now }
+{
+    match command {
+        Command::Solve { set, .. } => *set,
     }
 }
 
@@ -122,7 +149,7 @@ fn name_in(words: &[String]) -> &str
 }
 
 /// The game in the file of this name.
-fn read_file<S: Shelf>(alloc: Global, name: &str, shelf: &mut S) -> Result<Nfg, Status>
+fn read_file<S: Shelf>(alloc: Global, name: &str, shelf: &mut S) -> Result<Nfg, Refusal>
     requires { S.may_ask shelf.old name.now }
     ensures read { IfOk result (λ n. IsFileOf (S.bytes shelf.old name.now) n) }
     ensures why { IfErr result (IsFileFault
@@ -132,29 +159,11 @@ fn read_file<S: Shelf>(alloc: Global, name: &str, shelf: &mut S) -> Result<Nfg, 
     match shelf.load(alloc, name, LONGEST_FILE) {
         Ok(bytes) => match read_nfg(alloc, &bytes) {
             Ok(nfg) => Ok(nfg),
-            Err(NfgFault::Bad { at }) => Err(Status::BadInput { file, at }),
-            Err(NfgFault::NoMemory) => Err(Status::NoMemory),
+            Err(NfgFault::Bad { at }) => Err(Refusal::BadInput { file, at }),
+            Err(NfgFault::NoMemory) => Err(Refusal::NoMemory),
         },
-        Err(ShelfFault::Failed) => Err(Status::ReadFault { file }),
-        Err(ShelfFault::TooLong) => Err(Status::TooLong { file }),
-        Err(ShelfFault::NoMemory) => Err(Status::NoMemory),
+        Err(ShelfFault::Failed) => Err(Refusal::ReadFault { file }),
+        Err(ShelfFault::TooLong) => Err(Refusal::TooLong { file }),
+        Err(ShelfFault::NoMemory) => Err(Refusal::NoMemory),
     }
-}
-
-/// The numerator and the denominator of a discount factor of small parts.
-fn small_discount(discount: &Frac) -> (u32, u32)
-    requires { IsSmallNumber discount.now }
-    ensures small { IsSmallDiscount result.0 result.1 }
-    ensures numerator { pos result.0 ≡ discount.now.num }
-    ensures denominator { pos result.1 ≡ discount.now.den }
-{
-    (small(discount.num()), small(discount.den()))
-}
-
-/// A number from 0 to 16.
-fn small(number: i128) -> u32
-    requires { (pos 0 ≤ℤ number) × (number ≤ℤ pos 16) }
-    ensures { pos result ≡ number }
-{
-    number as u32
 }

@@ -1,69 +1,121 @@
 //! From a file's game and the settings to the report.
 
-ghost use Rattle.std.specs.Prelude.{◌≡◌, ℕ, ◌*◌, ◌/◌, ◌^◌, ◌<◌, ◌≤◌, length, slice_index, slice_index_or, All, IfOk};
-ghost use Rattle.direction_set.specs.DirectionTable.{IsDirectionTable};
-ghost use Rattle.level_table.specs.Levels.{opening_table, levels_in, IsRow};
-ghost use Rattle.level_table.specs.Tables.{problem_of};
-ghost use Rattle.solve_run.specs.Axes.{IsAxisProblem};
-ghost use Rattle.solve_run.specs.PlainGame.{IsPlain, IsSmallDiscount, plain_game, axes_of_two};
-ghost use Rattle.solve_run.specs.Sweeps.{IsRunTable};
-ghost use Rattle.solve_run.specs.Solved.{IsEnd, IsReportOf};
-ghost use Rattle.solve_run.specs.ReportText.{IsPrintable, discount_at};
+ghost use Rattle.std.specs.Prelude.{◌≡◌, ℕ, ◌<◌, ◌≤◌, length, slice_index, pos, ◌<ℤ◌, All, IfErr, IfOk, OnOk, IfSome, IfNone};
+ghost use Rattle.level_table.specs.Problem.{problem_of};
+ghost use Rattle.level_table.specs.Tables.{HasSmallOpening, IsOpening};
+ghost use Rattle.pay_frac.specs.Ratio.{IsLowest};
+ghost use Rattle.pay_words.specs.Options.{AreWithinLimits};
+ghost use Rattle.report_text.specs.ReportText.{IsPrintable, discount_at};
+ghost use Rattle.solve_run.specs.PlainGame.{IsParts, IsPlain, directions_of};
+ghost use Rattle.solve_run.specs.Refusals.{IsGameFault};
+ghost use Rattle.solve_run.specs.Solved.{IsBeyond, IsReportOf, IsSolvedBy};
 
 use crate::game::game_of;
-use crate::report::{Report, Verdict};
-use crate::settle::settled;
-use crate::sweep::sweep;
-use crate::words::Settings;
+use crate::refusal::Refusal;
 use direction_set::Directions;
 use game_model::{Game, List};
-use level_table::{LevelTable, Note, OpeningFault, opening, unit};
-use nfg_text::Nfg;
+use level_table::{LevelTable, OpeningFault, Problem, opening, unit};
+use nfg_text::{Nfg, What};
+use pay_frac::Frac;
+use pay_words::Settings;
+use report_text::Report;
 use std::alloc::{AllocError, Global};
+use sweep_run::run_sweeps;
 
-/// Bounds the payoff set of the file's game, with the discount factor `p/q`.
-pub(crate) fn report_of(
-    alloc: Global,
-    file: &Nfg,
-    set: &Settings,
-    p: u32,
-    q: u32,
-) -> Result<Report, AllocError>
+/// The largest denominator of a discount factor.
+const MOST_DENOMINATOR: i128 = 1024;
+
+/// How many directions bound a game of two players where no word says it.
+const USUAL_DIRECTIONS: u32 = 16;
+
+/// Bounds the payoff set of the file's game.
+pub(crate) fn report_of(alloc: Global, file: &Nfg, set: &Settings) -> Result<Report, Refusal>
     requires file { IsPlain file.now }
-    requires discount { IsSmallDiscount p q }
-    requires grid { set.now.grid ≤ 4 }
+    requires limits { AreWithinLimits set.now }
+    ensures solved { IfOk result (IsSolvedBy file.now set.now) }
+    ensures printable { IfOk result IsPrintable }
+    ensures why { IfErr result (IsGameFault file.now set.now) }
+{
+    let (p, q) = match small_discount(&set.discount) {
+        Some(parts) => parts,
+        None => {
+            return Err(Refusal::Beyond {
+                what: What::Discount,
+                number: set.discount.den(),
+            });
+        }
+    };
+    match game_of(alloc, file, p, q) {
+        Err(_) => Err(Refusal::NoMemory),
+        Ok(game) => report_on(alloc, &game, set),
+    }
+}
+
+/// Bounds the payoff set of a game.
+fn report_on(alloc: Global, game: &Game, set: &Settings) -> Result<Report, Refusal>
+    requires limits { AreWithinLimits set.now }
+    requires players { game.now.players ≡ 2 }
+    ensures solved { IfOk result (IsReportOf (problem_of game.now (directions_of set.now) set.now.grid) set.now.slack set.now.budget) }
+    ensures small { OnOk result (HasSmallOpening (problem_of game.now (directions_of set.now) set.now.grid)) }
+    ensures printable { IfOk result IsPrintable }
+    ensures why { IfErr result (IsBeyond (problem_of game.now (directions_of set.now) set.now.grid)) }
+{
+    let dirs = directions(set);
+    let start = match opening(alloc, game, &dirs, set.grid) {
+        Ok(levels) => levels,
+        Err(OpeningFault::NoMemory) => return Err(Refusal::NoMemory),
+        Err(OpeningFault::Beyond { number }) => {
+            return Err(Refusal::Beyond {
+                what: What::Opening,
+                number,
+            });
+        }
+    };
+    let p = Problem::new(game, &dirs, set.grid);
+    match solved(alloc, &p, start, set) {
+        Ok(report) => Ok(report),
+        Err(_) => Err(Refusal::NoMemory),
+    }
+}
+
+/// The report of a run from the opening.
+fn solved(
+    alloc: Global,
+    p: &Problem,
+    start: LevelTable,
+    set: &Settings,
+) -> Result<Report, AllocError>
+    requires opening { IsOpening p.now start }
     requires slack { 1 ≤ set.now.slack }
-    ensures solved { IfOk result (IsReportOf (problem_of (plain_game file.now p q) axes_of_two set.now.grid) set.now.slack set.now.budget) }
+    ensures solved { IfOk result (IsReportOf p.now set.now.slack set.now.budget) }
     ensures printable { IfOk result IsPrintable }
 {
-    let game = game_of(alloc, file, p, q)?;
-    let _players = game.players();
-    let dirs = axes();
-    let start = opening_of(alloc, &game, &dirs, set.grid)?;
-    let end = run(alloc, &game, &dirs, start, set)?;
+    let discounts = discounts_of(alloc, p.game())?;
+    let run = run_sweeps(alloc, p, start, set.slack, set.budget)?;
     Ok(Report {
-        players: game.players(),
-        states: game.states(),
-        directions: dirs.count(),
-        discounts: discounts_of(alloc, &game)?,
-        unit: unit(&game, set.grid),
+        players: p.players(),
+        states: p.states(),
+        directions: p.directions(),
+        discounts,
+        unit: unit(p.game(), p.grid()),
         slack: set.slack,
-        sweeps: end.sweeps,
-        levels: end.levels,
-        verdict: end.verdict,
-        notes: end.notes,
+        sweeps: run.sweeps,
+        levels: run.levels,
+        verdict: run.verdict,
+        notes: run.notes,
     })
 }
 
-/// The four axes of two players.
-fn axes() -> Directions
-    ensures axes { result ≡ axes_of_two }
-    ensures table { IsDirectionTable 2 result.vectors }
-    ensures count { length result.vectors ≡ 4 }
+/// The directions of the settings, for two players.
+fn directions(set: &Settings) -> Directions
+    requires { AreWithinLimits set.now }
+    ensures table { result ≡ directions_of set.now }
 {
-    let dirs = Directions::of(2, 4).unwrap();
-    dirs.rules();
-    dirs
+    let count = match set.directions {
+        Some(count) => count,
+        None => USUAL_DIRECTIONS,
+    };
+    Directions::of(2, count).unwrap()
 }
 
 /// Each player's discount factor.
@@ -79,71 +131,16 @@ fn discounts_of(alloc: Global, game: &Game) -> Result<List<(u32, u32)>, AllocErr
     Ok(discounts)
 }
 
-/// The opening table, whose levels are within the limit in a plain game.
-fn opening_of(
-    alloc: Global,
-    game: &Game,
-    dirs: &Directions,
-    grid: u32,
-) -> Result<LevelTable, AllocError>
-    requires problem { IsAxisProblem game.now dirs.now grid }
-    requires small { game.now.base * 2 ^ grid ≤ 2 ^ 20 }
-    ensures run { IfOk result (IsRunTable (problem_of game.now dirs.now grid)) }
-    ensures opening { IfOk result (λ t. (s k : ℕ) → IsRow (problem_of game.now dirs.now grid) s k → levels_in t s k ≡ opening_table (problem_of game.now dirs.now grid) s k) }
+/// The parts of a discount factor, and none where the denominator passes the limit.
+fn small_discount(discount: &Frac) -> Option<(u32, u32)>
+    requires lowest { IsLowest discount.now }
+    requires above_zero { pos 0 <ℤ discount.now.num }
+    requires below_one { discount.now.num <ℤ discount.now.den }
+    ensures some { IfSome result (λ parts. IsParts discount.now parts.0 parts.1) }
+    ensures none { IfNone result (pos 1024 <ℤ discount.now.den) }
 {
-    match opening(alloc, game, dirs, grid) {
-        Ok(levels) => {
-            let _states = levels.states();
-            Ok(levels)
-        }
-        Err(OpeningFault::NoMemory) => Err(AllocError),
-        Err(OpeningFault::Beyond { .. }) => unreachable!(),
+    if discount.den() > MOST_DENOMINATOR {
+        return None;
     }
-}
-
-/// Where a run ended.
-#[derive(Drop)]
-struct End {
-    levels: LevelTable,
-    notes: List<Note>,
-    sweeps: u64,
-    verdict: Verdict,
-}
-
-/// Sweeps until the table is supported within the slack or the budget's sweeps are run.
-fn run(
-    alloc: Global,
-    game: &Game,
-    dirs: &Directions,
-    start: LevelTable,
-    set: &Settings,
-) -> Result<End, AllocError>
-    requires problem { IsAxisProblem game.now dirs.now set.now.grid }
-    requires run { IsRunTable (problem_of game.now dirs.now set.now.grid) start }
-    requires slack { 1 ≤ set.now.slack }
-    requires opening { (s k : ℕ) → IsRow (problem_of game.now dirs.now set.now.grid) s k → levels_in start s k ≡ opening_table (problem_of game.now dirs.now set.now.grid) s k }
-    ensures { IfOk result (λ e. IsEnd (problem_of game.now dirs.now set.now.grid) set.now.slack (set.now.budget / length e.levels.levels) e.levels e.notes e.sweeps e.verdict) }
-{
-    let mut levels = start;
-    let mut notes = List::new(alloc);
-    let most = set.budget / u64::from(levels.rows());
-    for sweeps in 0..most {
-        let verdict = settled(alloc, game, dirs, set.grid, &levels, set.slack)?;
-        if let Verdict::Supported(_) = verdict {
-            return Ok(End {
-                levels,
-                notes,
-                sweeps,
-                verdict,
-            });
-        }
-        sweep(alloc, game, dirs, set.grid, &mut levels, &mut notes)?;
-    }
-    let verdict = settled(alloc, game, dirs, set.grid, &levels, set.slack)?;
-    Ok(End {
-        levels,
-        notes,
-        sweeps: most,
-        verdict,
-    })
+    Some((discount.num() as u32, discount.den() as u32))
 }

@@ -1,5 +1,6 @@
 // Runs over files and a sink in memory: the words, the file, and what comes of them.
 use super::*;
+use nfg_text::What;
 use pay_outside::{MemShelf, MemSink, OpenGate};
 use std::alloc::Global;
 use std::process::Abort;
@@ -13,6 +14,12 @@ const SELTEN: &[u8] =
 
 const MP: &[u8] = b"NFG 1 R \"MP\" { \"1\" \"2\" } { 2 2 } 1 -1 -1 1 -1 1 1 -1";
 
+const ONE: &[u8] = b"NFG 1 R \"one\" { \"A\" \"B\" } { 1 1 } 1 2";
+
+const BIG: &[u8] = b"NFG 1 R \"big\" { \"1\" \"2\" } { 1 1 } 1048577 0";
+
+const LARGE: &[u8] = b"NFG 1 R \"big\" { \"1\" \"2\" } { 1 1 } 1048576 0";
+
 const AT_HALF: [&str; 7] = [
     "solve",
     "pd.nfg",
@@ -22,6 +29,30 @@ const AT_HALF: [&str; 7] = [
     "workers=1",
     "inner=0",
 ];
+
+const OUT_OF_ORDER: [&str; 6] = [
+    "solve",
+    "pd.nfg",
+    "inner=0",
+    "grid=4",
+    "directions=4",
+    "discount=.5",
+];
+
+const SLACK_2: [&str; 6] = [
+    "solve",
+    "pd.nfg",
+    "discount=1/2",
+    "directions=4",
+    "grid=4",
+    "slack=2",
+];
+
+const EIGHT_DIRECTIONS: [&str; 5] = ["solve", "pd.nfg", "discount=1/2", "directions=8", "grid=0"];
+
+const GRID_16: [&str; 5] = ["solve", "pd.nfg", "discount=1/2", "directions=4", "grid=16"];
+
+const GRID_30: [&str; 5] = ["solve", "pd.nfg", "discount=1/2", "directions=4", "grid=30"];
 
 const AT_NINE_TENTHS: [&str; 7] = [
     "solve",
@@ -34,7 +65,7 @@ const AT_NINE_TENTHS: [&str; 7] = [
 ];
 
 /// The words of the first example with one more word.
-fn with_budget(word: &str) -> [&str; 8] {
+fn with_word(word: &str) -> [&str; 8] {
     [
         "solve",
         "pd.nfg",
@@ -80,8 +111,29 @@ fn games_are_settled(rt: HostRuntime) -> Result<(), Fail> {
         ),
         (
             PD,
-            &with_budget("budget=16")[..],
+            &with_word("budget=16")[..],
             &b"payoff 1\nstatus settled\nplayers 2\nstates 1\ndirections 4\ndiscount 1/2\nunit 16\nslack 1\nsweeps 4\nsolves 16\nrow 0 0 48\nrow 0 1 -15\nrow 0 2 48\nrow 0 3 -15\npoint 0 0 "[..],
+        ),
+        (
+            PD,
+            &OUT_OF_ORDER[..],
+            &b"payoff 1\nstatus settled\nplayers 2\nstates 1\ndirections 4\ndiscount 1/2\nunit 16\nslack 1\nsweeps 4\nsolves 16\nrow 0 0 48\nrow 0 1 -15\nrow 0 2 48\nrow 0 3 -15\npoint 0 0 "[..],
+        ),
+        (
+            PD,
+            &SLACK_2[..],
+            &b"payoff 1\nstatus settled\nplayers 2\nstates 1\ndirections 4\ndiscount 1/2\nunit 16\nslack 2\nsweeps 3\nsolves 12\nrow 0 0 48\nrow 0 1 -14\nrow 0 2 48\nrow 0 3 -14\npoint 0 0 "[..],
+        ),
+        (
+            ONE,
+            &EIGHT_DIRECTIONS[..],
+            &b"payoff 1\nstatus settled\nplayers 2\nstates 1\ndirections 8\ndiscount 1/2\nunit 1\nslack 1\nsweeps 0\nsolves 0\nrow 0 0 1\nrow 0 1 -1\nrow 0 2 2\nrow 0 3 -2\nrow 0 4 3\nrow 0 5 -3\nrow 0 6 -1\nrow 0 7 1\npoint 0 0 0 1 2\npoint 0 1 0 1 2\npoint 0 2 0 1 2\npoint 0 3 0 1 2\npoint 0 4 0 1 2\npoint 0 5 0 1 2\npoint 0 6 0 1 2\npoint 0 7 0 1 2\nend\n"[..],
+        ),
+        (BIG, &GRID_16[..], &b"payoff 1\nstatus settled\n"[..]),
+        (
+            LARGE,
+            &GRID_30[..],
+            &b"payoff 1\nstatus settled\nplayers 2\nstates 1\ndirections 4\ndiscount 1/2\nunit 1073741824\n"[..],
         ),
         (
             MP,
@@ -130,7 +182,7 @@ fn budgets_are_spent(rt: HostRuntime) -> Result<(), Fail> {
         let status = run(
             &rt,
             alloc,
-            &with_budget(word),
+            &with_word(word),
             Some(PD.to_vec(alloc)?),
             &mut sink,
         )?;
@@ -146,6 +198,53 @@ fn budgets_are_spent(rt: HostRuntime) -> Result<(), Fail> {
 }
 
 #[test]
+fn more_directions_are_spent(rt: HostRuntime) -> Result<(), Fail> {
+    let alloc = rt.alloc();
+    let mut sink = MemSink::new(alloc, 7, Vec::new(alloc))?;
+    let words = [
+        "solve",
+        "pd.nfg",
+        "discount=1/2",
+        "directions=8",
+        "grid=4",
+        "budget=0",
+    ];
+    let status = run(&rt, alloc, &words, Some(PD.to_vec(alloc)?), &mut sink)?;
+    assert_eq!(rt; status, Status::Spent { sweeps: 0, row: 1 });
+    assert!(rt;
+        sink.taken().ends_with(
+            b"row 0 0 48\nrow 0 1 0\nrow 0 2 48\nrow 0 3 0\nrow 0 4 96\nrow 0 5 0\nrow 0 6 48\nrow 0 7 48\nstop 0 1 0 -8\nend\n"
+        )
+    );
+    Ok(())
+}
+
+#[test]
+fn limits_are_told(rt: HostRuntime) -> Result<(), Fail> {
+    let alloc = rt.alloc();
+    for (content, words, what, number) in [
+        (
+            BIG,
+            &["solve", "pd.nfg", "discount=1/2", "directions=4", "grid=30"][..],
+            What::Opening,
+            1_125_900_980_584_448,
+        ),
+        (
+            PD,
+            &["solve", "pd.nfg", "discount=1/2000"][..],
+            What::Discount,
+            2000,
+        ),
+    ] {
+        let mut sink = MemSink::new(alloc, 7, Vec::new(alloc))?;
+        let status = run(&rt, alloc, words, Some(content.to_vec(alloc)?), &mut sink)?;
+        assert_eq!(rt; status, Status::Beyond { what, number });
+        assert!(rt; sink.taken().is_empty());
+    }
+    Ok(())
+}
+
+#[test]
 fn words_that_do_not_fit_are_named(rt: HostRuntime) -> Result<(), Fail> {
     let alloc = rt.alloc();
     for (words, index) in [
@@ -154,7 +253,8 @@ fn words_that_do_not_fit_are_named(rt: HostRuntime) -> Result<(), Fail> {
         (&["solve", "pd.nfg", "discount=1"][..], 2),
         (&["solve", "pd.nfg", "discount=0"][..], 2),
         (&["solve", "pd.nfg", "workers=0"][..], 2),
-        (&with_budget("slack=1")[..], 7),
+        (&with_word("slack=0")[..], 7),
+        (&with_word("grid=4")[..], 7),
     ] {
         let mut sink = MemSink::new(alloc, 7, Vec::new(alloc))?;
         let status = run(&rt, alloc, words, Some(PD.to_vec(alloc)?), &mut sink)?;
@@ -189,7 +289,7 @@ fn output_that_fails_is_told(rt: HostRuntime) -> Result<(), Fail> {
     let alloc = rt.alloc();
     for (words, most_per_put, written, bytes) in [
         (&AT_HALF[..], 7, 7, &b"payoff "[..]),
-        (&with_budget("budget=15")[..], 10, 10, &b"payoff 1\ns"[..]),
+        (&with_word("budget=15")[..], 10, 10, &b"payoff 1\ns"[..]),
     ] {
         let mut sink = MemSink::new(alloc, most_per_put, vec![in alloc; 1u64]?)?;
         let status = run(&rt, alloc, words, Some(PD.to_vec(alloc)?), &mut sink)?;

@@ -1,6 +1,6 @@
 use Rattle.std.proofs.Common.{◌≡◌, ℕ, ◌<◌, length, All}
 use Rattle.std.specs.Prelude.{slice_index}
-use Rattle.solve_run.specs.ReportText.{discount_at}
+use Rattle.report_text.specs.ReportText.{discount_at}
 use Rattle.solve_run.proofs.solve.discounts_of.Given as goal
 
 abbrev pub invariant-loop-i : goal.invariant-loop-i

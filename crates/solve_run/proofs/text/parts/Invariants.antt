@@ -1,7 +1,0 @@
-use Rattle.std.proofs.Common.{◌≡◌, ℕ, List, ◌++◌}
-use Rattle.game_model.specs.SelfGeneration.{part}
-use Rattle.solve_run.specs.ReportText.{AreFractionWords, blanked}
-use Rattle.solve_run.proofs.text.parts.Given as goal
-
-abbrev pub invariant-loop-i : goal.invariant-loop-i
-invariant-loop-i l = (words : List (List ℕ)) × (AreFractionWords l.i (part l.point.num) (λ i. l.point.den) words × (l.out.items ≡ l.initial.out.items ++ blanked words))

@@ -1,6 +1,0 @@
-use Rattle.std.proofs.Common.{◌≡◌, ◌++◌}
-use Rattle.solve_run.specs.ReportText.{why_line, texts_below}
-use Rattle.solve_run.proofs.text.why_lines.Given as goal
-
-abbrev pub invariant-loop-a : goal.invariant-loop-a
-invariant-loop-a l = l.out.items ≡ l.fn.out.items ++ texts_below (why_line l.fn.s l.fn.reasons) l.a
