@@ -10,7 +10,6 @@ use Rattle.level_table.specs.declared.level.Level.{Level}
 use Rattle.level_table.specs.declared.reason.Note.{Note}
 use Rattle.level_table.specs.Problem.{Problem, direction_count, opening_level, IsProblem}
 use Rattle.level_table.specs.Levels.{AtMost, IsBelow, IsNumber, IsRow, IsSmall, Levels, Table, levels_in, opening_table}
-use Rattle.level_table.specs.Notes.{NoteList}
 use Rattle.level_table.specs.Operator.{IsRowLevel}
 use Rattle.level_table.specs.Iterates.{drop_of}
 use Rattle.level_table.specs.Start.{IsBetween, IsStart}
@@ -29,12 +28,16 @@ use Rattle.set_operator.specs.declared.row.Verdict.TheVariants.{Supported, Unsup
 use Rattle.settle_test.specs.Verdicts.{FailsAt, IsVerdict, direction_of, state_of}
 use Rattle.settle_test.proofs.Places.{row_here, row_known}
 use Rattle.sweep_run.specs.Runs.{IsAfterSweeps, IsEnough, IsLastSweep, IsRunFrom, IsRunning, IsSupportedVerdict}
-use Rattle.sweep_run.specs.Sweeper.{IsRunOf, IsSettling, IsSweeper}
-use Rattle.sweep_run.specs.Sweeps.{AreNamed, IsRunTable, IsSound, IsSwept, KeepsNotes}
+use Rattle.sweep_run.specs.Sweeper.{IsRunOf, IsSettling, IsSweeper, problem_in}
+use Rattle.worker_pass.specs.Sweeps.{IsCleared}
+use Rattle.schedule_core.specs.Frame.{Frame, IsFrame, IsSeen, rows_of}
+use Rattle.worker_pass.specs.Clearings.{AreNamed, KeepsNotes}
+use Rattle.worker_pass.proofs.Naming.{number_is, some_direction}
+use Rattle.sweep_run.specs.Sweeps.{IsRunTable, IsSound, IsSwept}
 use Rattle.sweep_run.specs.declared.run.Run.{Run}
 use Rattle.sweep_run.specs.declared.sweeper.Sweeper.{Sweeper}
-use Rattle.sweep_run.proofs.Naming.{named_rows, named_start, some_direction}
-use Rattle.sweep_run.proofs.Rows.{at_most_from_same, number_is, range_below}
+use Rattle.sweep_run.proofs.Naming.{named_rows, named_start}
+use Rattle.sweep_run.proofs.Rows.{at_most_from_same, range_below}
 use Rattle.sweep_run.proofs.Steps.{run_then, same_rows}
 
 -- a start is the table of a run
@@ -134,12 +137,13 @@ run_ends p start given slack budget r ok bounds h verdict last = record {
 }
 
 -- the code's run, from a table with so many rows
-pub run_of_ends : (p : Problem) (start : Levels) (given : List Note) (slack budget rows : ℕ) (w : Sweeper) (r : Run) → IsProblem p → HasBounds p start → IsSmallTable p w.levels → IsRunning p start given slack 0 w.levels w.notes.list
-    → IsRunOf p w slack (budget / rows) r → rows ≡ length w.levels.levels → IsRunFrom p start given slack budget r
-run_of_ends p start given slack budget rows w r ok bounds small began h count =
-    let h_running : IsRunning p start given slack r.sweeps r.levels r.notes.list = h.running start given began in
-    let same : rows ≡ length r.levels.levels = count ∙ sym (same_rows p w.levels r.levels small h_running.run.sound.table) in
-    run_ends p start given slack budget r ok bounds h_running h.is_verdict (subst (λ (n : ℕ). IsLastSweep (budget / n) r.sweeps r.verdict) same h.last)
+pub run_of_ends : (p : Problem) (start : Levels) (given : List Note) (slack budget rows : ℕ) (w : Sweeper) (r : Run) → IsProblem p → HasBounds p start → IsSmallTable p w.scratch.levels → problem_in w ≡ p
+    → IsRunning p start given slack 0 w.scratch.levels w.owner.notes → IsRunOf w slack (budget / rows) r → rows ≡ length w.scratch.levels.levels → IsRunFrom p start given slack budget r
+run_of_ends p start given slack budget rows w r ok bounds small is began h count =
+    let running : IsRunning p start given slack r.sweeps r.levels r.notes.list =
+    subst (λ (q : Problem). IsRunning q start given slack r.sweeps r.levels r.notes.list) is (h.running start given (subst (λ (q : Problem). IsRunning q start given slack 0 w.scratch.levels w.owner.notes) (sym is) began)) in
+    let same : rows ≡ length r.levels.levels = count ∙ sym (same_rows p w.scratch.levels r.levels small running.run.sound.table) in
+    run_ends p start given slack budget r ok bounds running (subst (λ (q : Problem). IsVerdict q r.levels slack r.verdict) is h.is_verdict) (subst (λ (n : ℕ). IsLastSweep (budget / n) r.sweeps r.verdict) same h.last)
 
 -- ---- where a run begins
 pub running_start : (p : Problem) (t : Table) (given : List Note) (slack : ℕ) → IsProblem p → IsStart p (levels_in t) given → IsSmallTable p t → IsRunning p (levels_in t) given slack 0 t given
@@ -195,31 +199,30 @@ opening_dropped p sweeps z ok h = from_zero (drop_of p (opening_table p) (openin
     from_zero d e k = omega (arith, ints, e, k)
 
 -- ---- from one sweep to the next
--- the same levels and notes
-pub running_same : (p : Problem) (start : Levels) (given : List Note) (slack sweeps : ℕ) (w v : Sweeper) → IsRunning p start given slack sweeps w.levels w.notes.list → v.levels ≡ w.levels → v.notes ≡ w.notes → IsRunning p start given slack sweeps v.levels v.notes.list
-running_same p start given slack sweeps w v h e f =
-    subst (λ (t : Table). IsRunning p start given slack sweeps t v.notes.list) (sym e) (subst (λ (n : NoteList). IsRunning p start given slack sweeps w.levels n.list) (sym f) h)
+-- the same problem, levels and notes
+pub running_same : (start : Levels) (given : List Note) (slack sweeps : ℕ) (p q : Problem) (t u : Table) (ns ms : List Note) → q ≡ p → u ≡ t → ms ≡ ns → IsRunning p start given slack sweeps t ns → IsRunning q start given slack sweeps u ms
+running_same start given slack sweeps p q t u ns ms a b c h = subst (λ (X : Type 0). X) (λ i. IsRunning (sym a i) start given slack sweeps (sym b i) (sym c i)) h
 
-pub running_next : (p : Problem) (start : Levels) (given : List Note) (slack sweeps : ℕ) (v u : Sweeper) → IsProblem p → 1 ≤ slack → IsRunning p start given slack sweeps v.levels v.notes.list → IsSettling p v.levels slack None
-    → IsSwept p v.levels v.notes.list u.levels u.notes.list → KeepsNotes p (levels_in v.levels) v.notes.list u.notes.list → IsSweeper p u → IsRunning p start given slack (sweeps + 1) u.levels u.notes.list
-running_next p start given slack sweeps v u ok some h (row, below, fails) swept noted sweeper = record {
-  run = run_then p start v.levels u.levels h.run swept.step;
-  named = sweeper.named;
+pub running_next : (p : Problem) (start : Levels) (given : List Note) (slack sweeps : ℕ) (t u : Table) (before after : List Note) → IsProblem p → 1 ≤ slack → IsRunning p start given slack sweeps t before → IsSettling p t slack None
+    → IsSwept p t before u after → KeepsNotes p (levels_in t) before after → AreNamed p (levels_in u) after → IsRunning p start given slack (sweeps + 1) u after
+running_next p start given slack sweeps t u before after ok some h (row, below, fails) swept noted named = record {
+  run = run_then p start t u h.run swept.step;
+  named = named;
   kept_above = noted start h.run.kept h.kept_above;
-  after = one_more_sweep p start given slack sweeps v.levels u.levels v.notes.list u.notes.list h.after (fails_unsupported p v.levels slack row h.run.sound.table below fails) swept;
-  iterate = below_next_iterate p start (levels_in v.levels) (levels_in u.levels) sweeps h.iterate swept.step.below swept.passed;
-  dropped = one_more_dropped p (drop_of p (opening_table p) start) v.levels u.levels v.notes.list u.notes.list slack sweeps row ok some h.run.sound below fails swept h.dropped;
+  after = one_more_sweep p start given slack sweeps t u before after h.after (fails_unsupported p t slack row h.run.sound.table below fails) swept;
+  iterate = below_next_iterate p start (levels_in t) (levels_in u) sweeps h.iterate swept.step.below swept.passed;
+  dropped = one_more_dropped p (drop_of p (opening_table p) start) t u before after slack sweeps row ok some h.run.sound below fails swept h.dropped;
 }
 
 -- ---- what the code makes of the end
-pub run_made : (p : Problem) (first v : Sweeper) (slack most sweeps : ℕ) (verdict : Verdict) (r : Run) → ((start : Levels) (given : List Note) → IsRunning p start given slack 0 first.levels first.notes.list → IsRunning p start given slack sweeps v.levels v.notes.list)
-    → IsVerdict p v.levels slack verdict → IsLastSweep most sweeps verdict → r.levels ≡ v.levels → r.notes ≡ v.notes → r.sweeps ≡ sweeps → r.verdict ≡ verdict → IsRunOf p first slack most r
-run_made p first v slack most sweeps verdict r running is_verdict last e f g i =
-    let ends : IsRunOf p first slack most (record { levels = v.levels; notes = v.notes; sweeps = sweeps; verdict = verdict }) = record { is_verdict = is_verdict; last = last; running = running } in
-    subst (λ (x : Table). IsRunOf p first slack most (record { levels = x; notes = r.notes; sweeps = r.sweeps; verdict = r.verdict })) (sym e)
-    (subst (λ (x : NoteList). IsRunOf p first slack most (record { levels = v.levels; notes = x; sweeps = r.sweeps; verdict = r.verdict })) (sym f)
-    (subst (λ (x : ℕ). IsRunOf p first slack most (record { levels = v.levels; notes = v.notes; sweeps = x; verdict = r.verdict })) (sym g)
-    (subst (λ (x : Verdict). IsRunOf p first slack most (record { levels = v.levels; notes = v.notes; sweeps = sweeps; verdict = x })) (sym i) ends)))
+pub run_made : (first v : Sweeper) (slack most sweeps : ℕ) (verdict : Verdict) (r : Run) → problem_in v ≡ problem_in first
+    → ((start : Levels) (given : List Note) → IsRunning (problem_in first) start given slack 0 first.scratch.levels first.owner.notes → IsRunning (problem_in first) start given slack sweeps v.scratch.levels v.owner.notes)
+    → IsVerdict (problem_in first) v.scratch.levels slack verdict → IsLastSweep most sweeps verdict → r.levels ≡ v.scratch.levels → r.notes.list ≡ v.owner.notes → r.sweeps ≡ sweeps → r.verdict ≡ verdict → IsRunOf first slack most r
+run_made first v slack most sweeps verdict r same running is_verdict last e f g i = record {
+  is_verdict = subst (λ (X : Type 0). X) (λ j. IsVerdict (problem_in first) (sym e j) slack (sym i j)) is_verdict;
+  last = subst (λ (X : Type 0). X) (λ j. IsLastSweep most (sym g j) (sym i j)) last;
+  running = λ start given began. subst (λ (X : Type 0). X) (λ j. IsRunning (problem_in first) start given slack (sym g j) (sym e j) (sym f j)) (running start given began);
+}
 
 pub if_ok : {X E : Type 0} (r : Result X E) (P Q : X → Type 0) → ((x : X) → P x → Q x) → IfOk r P → IfOk r Q
 if_ok (Ok x) P Q f h = f x h

@@ -13,7 +13,8 @@ use Rattle.bound_laws.specs.Laws.{HasBounds, HasKeptAbove}
 use Rattle.set_operator.specs.declared.row.Verdict.{Verdict}
 use Rattle.set_operator.specs.declared.row.Verdict.TheVariants.{Supported, Unsupported}
 use Rattle.settle_test.specs.Verdicts.{IsVerdict}
-use Rattle.sweep_run.specs.Sweeps.{AreNamed, AreSame, IsRunTable, IsSwept}
+use Rattle.worker_pass.specs.Clearings.{AreNamed, AreSame}
+use Rattle.sweep_run.specs.Sweeps.{IsRunTable, IsSwept}
 use Rattle.sweep_run.specs.declared.run.Run.{Run}
 
 abbrev pub IsSupportedVerdict : Verdict → Type 0

@@ -2,8 +2,6 @@
 //! spent (Judd, Yeltekin and Conklin 2003; one set of bounds for each state after Yeltekin, Cai and Judd 2017).
 #![tactic(auto)]
 
-mod clear;
-mod lower;
 mod run;
 mod sweeper;
 #[cfg(test)]

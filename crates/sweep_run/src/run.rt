@@ -1,22 +1,25 @@
 //! Runs of sweeps.
 
 ghost use Rattle.std.specs.Prelude.{◌≡◌, ℕ, ◌+◌, ◌<◌, ◌≤◌, IfOk, [], pos, ◌≤ℤ◌};
-ghost use Rattle.game_model.specs.Game.{states};
 ghost use Rattle.level_table.specs.Iterates.{drop_of};
 ghost use Rattle.level_table.specs.Levels.{levels_in, opening_table};
-ghost use Rattle.level_table.specs.Notes.{HasRoomFor};
+ghost use Rattle.level_table.specs.Problem.{problem_of};
 ghost use Rattle.level_table.specs.Start.{IsStart};
 ghost use Rattle.level_table.specs.Tables.{HasSmallOpening, IsOpening, IsSmallTable};
+ghost use Rattle.schedule_core.specs.Room.{HasRoom};
 ghost use Rattle.sweep_run.specs.Runs.{IsRunFrom};
 ghost use Rattle.sweep_run.specs.Sweeper.{IsRunOf, IsSweeper};
-ghost use Rattle.sweep_run.specs.Sweeps.{IsSwept, KeepsNotes, empty_states};
 
-use crate::clear::clear_states;
-use crate::lower::lower_rows;
 use crate::sweeper::Sweeper;
+use direction_set::Directions;
+use game_model::Game;
 use level_table::{LevelTable, Notes, Problem};
+use pay_outside::Gate;
+use pay_words::Settings;
+use schedule_core::laws::{fresh_notes_have_room, opening_is_opened};
 use set_operator::Verdict;
 use std::alloc::{AllocError, Global};
+use std::thread::Threads;
 
 /// Where a run ended: levels in units of `1/E`, why states are Empty, how many sweeps were made, and what the
 /// settling test says of the levels.
@@ -29,100 +32,79 @@ pub struct Run {
 }
 
 /// Sweeps from a start until the table is supported within the slack, or until a sweep more would take more solves
-/// than the budget has. A sweep counts one solve for each row. All memory but that of settling tests is taken before
-/// the first sweep.
-pub fn run_from(
+/// than the budget has. A sweep counts one solve for each row. The workers run in threads, with the gate's calls around
+/// each row. All memory but that of settling tests is taken before the first sweep.
+pub fn run_from<R: Threads + Sync, G: Gate + Sync>(
+    rt: &R,
     alloc: Global,
-    p: &Problem,
+    game: &Game,
+    dirs: &Directions,
     start: LevelTable,
     notes: Notes,
-    slack: u64,
-    budget: u64,
+    set: &Settings,
+    gate: &G,
 ) -> Result<Run, AllocError>
-    requires start { IsStart p.now (levels_in start) notes.list }
-    requires table { IsSmallTable p.now start }
-    requires opening { HasSmallOpening p.now }
-    requires spare { states p.now.game ≤ empty_states (levels_in start) (states p.now.game) + notes.spare }
-    requires each { HasRoomFor p.now.game notes.each }
-    requires slack { 1 ≤ slack }
-    ensures { IfOk result (IsRunFrom p.now (levels_in start) notes.list slack budget) }
+    requires players { dirs.now.players ≡ game.now.players }
+    requires grid { set.now.grid ≤ 30 }
+    requires start { IsStart (problem_of game.now dirs.now set.now.grid) (levels_in start) notes.list }
+    requires table { IsSmallTable (problem_of game.now dirs.now set.now.grid) start }
+    requires opening { HasSmallOpening (problem_of game.now dirs.now set.now.grid) }
+    requires room { HasRoom game.now notes }
+    requires slack { 1 ≤ set.now.slack }
+    ensures { IfOk result (IsRunFrom (problem_of game.now dirs.now set.now.grid) (levels_in start) notes.list set.now.slack set.now.budget) }
 {
-    p.rules();
-    let most = budget / u64::from(start.rows());
-    let w = Sweeper::new(alloc, p, start, notes)?;
-    make_run(alloc, p, w, slack, most)
+    let most = set.budget / u64::from(start.rows());
+    let w = Sweeper::new(alloc, game, dirs, set.grid, start, notes, set.workers)?;
+    make_run(rt, alloc, w, set.slack, most, gate)
 }
 
 /// The same from the opening table, whose levels bound, without notes.
-pub fn run_sweeps(
+pub fn run_sweeps<R: Threads + Sync, G: Gate + Sync>(
+    rt: &R,
     alloc: Global,
-    p: &Problem,
+    game: &Game,
+    dirs: &Directions,
     opening: LevelTable,
-    slack: u64,
-    budget: u64,
+    set: &Settings,
+    gate: &G,
 ) -> Result<Run, AllocError>
-    requires opening { IsOpening p.now opening }
-    requires slack { 1 ≤ slack }
-    ensures run { IfOk result (IsRunFrom p.now (opening_table p.now) [] slack budget) }
-    ensures drop { IfOk result (λ r. pos r.sweeps ≤ℤ drop_of p.now (opening_table p.now) (levels_in r.levels)) }
+    requires players { dirs.now.players ≡ game.now.players }
+    requires grid { set.now.grid ≤ 30 }
+    requires opening { IsOpening (problem_of game.now dirs.now set.now.grid) opening }
+    requires slack { 1 ≤ set.now.slack }
+    ensures run { IfOk result (IsRunFrom (problem_of game.now dirs.now set.now.grid) (opening_table (problem_of game.now dirs.now set.now.grid)) [] set.now.slack set.now.budget) }
+    ensures drop { IfOk result (λ r. pos r.sweeps ≤ℤ drop_of (problem_of game.now dirs.now set.now.grid) (opening_table (problem_of game.now dirs.now set.now.grid)) (levels_in r.levels)) }
 {
-    p.rules();
-    let _states = opening.states();
-    let most = budget / u64::from(opening.rows());
-    let notes = Notes::with_room(alloc, p.game())?;
-    let w = Sweeper::new(alloc, p, opening, notes)?;
-    make_run(alloc, p, w, slack, most)
+    fresh_notes_have_room();
+    opening_is_opened();
+    let _law = Problem::new(game, dirs, set.grid);
+    opening.states();
+    let most = set.budget / u64::from(opening.rows());
+    let notes = Notes::with_room(alloc, game)?;
+    let w = Sweeper::new(alloc, game, dirs, set.grid, opening, notes, set.workers)?;
+    make_run(rt, alloc, w, set.slack, most, gate)
 }
 
 /// Sweeps until the table is supported within the slack, or until so many sweeps were made.
-fn make_run(
+fn make_run<R: Threads + Sync, G: Gate + Sync>(
+    rt: &R,
     alloc: Global,
-    p: &Problem,
-    start: Sweeper,
+    start: Sweeper<'_>,
     slack: u64,
     most: u64,
+    gate: &G,
 ) -> Result<Run, AllocError>
-    requires sweeper { IsSweeper p.now start }
-    requires opening { HasSmallOpening p.now }
+    requires sweeper { IsSweeper start }
     requires slack { 1 ≤ slack }
-    ensures { IfOk result (IsRunOf p.now start slack most) }
+    ensures { IfOk result (IsRunOf start.entry slack most) }
 {
-    p.rules();
     let mut w = start;
     for sweeps in 0..most {
-        if let Some(verdict) = w.settling(alloc, p, slack)? {
-            return Ok(ended(w, sweeps, verdict));
+        if let Some(verdict) = w.settling(alloc, slack)? {
+            return Ok(w.ended(sweeps, verdict));
         }
-        sweep(&mut w, p);
+        w.sweep(rt, gate);
     }
-    let verdict = w.verdict(alloc, p, slack)?;
-    Ok(ended(w, most, verdict))
-}
-
-/// Lowers each row in order to its row level under the present levels, and then clears each state in order in which
-/// nothing is admissible, with a note that says why. No memory is taken.
-fn sweep(w: &mut Sweeper, p: &Problem)
-    requires sweeper { IsSweeper p.now w.old }
-    requires opening { HasSmallOpening p.now }
-    ensures swept { IsSwept p.now w.old.levels w.old.notes.list w.new.levels w.new.notes.list }
-    ensures noted { KeepsNotes p.now (levels_in w.old.levels) w.old.notes.list w.new.notes.list }
-    ensures sweeper { IsSweeper p.now w.new }
-{
-    lower_rows(w, p);
-    clear_states(w, p);
-}
-
-/// Where a run ended, without its room.
-fn ended(w: Sweeper, sweeps: u64, verdict: Verdict) -> Run
-    ensures levels { result.levels ≡ w.levels }
-    ensures notes { result.notes ≡ w.notes }
-    ensures sweeps { result.sweeps ≡ sweeps }
-    ensures verdict { result.verdict ≡ verdict }
-{
-    Run {
-        levels: w.levels,
-        notes: w.notes,
-        sweeps,
-        verdict,
-    }
+    let verdict = w.verdict(alloc, slack)?;
+    Ok(w.ended(most, verdict))
 }

@@ -1,63 +1,96 @@
 //! What a run works on.
 
-ghost use Rattle.std.specs.Prelude.{◌≡◌, ℕ, ◌+◌, ◌<◌, ◌≤◌, length, IfOk, IsTrue, ◌↔◌};
-ghost use Rattle.game_model.specs.Game.{states};
-ghost use Rattle.level_table.specs.declared.level.Level.TheVariants.{Empty};
+ghost use Rattle.std.specs.Prelude.{◌≡◌, ◌≤◌, IfOk};
 ghost use Rattle.level_table.specs.Levels.{levels_in};
-ghost use Rattle.level_table.specs.Notes.{HasRoomFor};
-ghost use Rattle.level_table.specs.Tables.{HasSmallOpening};
+ghost use Rattle.level_table.specs.Problem.{problem_of};
+ghost use Rattle.schedule_core.specs.Frame.{IsOpened, frame_from};
+ghost use Rattle.schedule_core.specs.Room.{HasRoom};
+ghost use Rattle.level_table.specs.Tables.{IsSmallTable};
 ghost use Rattle.settle_test.specs.Verdicts.{IsVerdict};
-ghost use Rattle.sweep_run.specs.Sweeper.{IsSettling, IsSweeper};
-ghost use Rattle.sweep_run.specs.Sweeps.{AreNamed, IsSound, empty_states};
+ghost use Rattle.sweep_run.specs.Sweeper.{IsSettling, IsSweeper, problem_in};
+ghost use Rattle.sweep_run.specs.Sweeps.{IsSwept};
+ghost use Rattle.worker_pass.specs.Clearings.{KeepsNotes};
 
+use crate::run::Run;
+use direction_set::Directions;
 use game_model::Game;
-use level_table::{Level, LevelTable, Note, Notes, Problem, ReasonList};
+use level_board::{Board, Owner};
+use level_table::{LevelTable, Notes};
+use pay_outside::Gate;
 use set_operator::{Prepared, Verdict};
 use settle_test::{fails_at, verdict_of};
 use std::alloc::{AllocError, Global};
+use std::thread::Threads;
+use worker_pass::{Scratch, Worker, crew, sweep};
 
-/// A table and its notes, with all the room that sweeps want.
+/// A board with its owner and workers, and all the room that sweeps want.
 #[derive(Drop)]
-pub(crate) struct Sweeper {
-    pub(crate) levels: LevelTable,
-    pub(crate) notes: Notes,
+pub(crate) struct Sweeper<'g> {
+    pub(crate) board: Board<'g>,
+    pub(crate) owner: Owner,
+    pub(crate) workers: Vec<Worker>,
+    /// Its levels are the table of the run.
+    pub(crate) scratch: Scratch,
     pub(crate) prepared: Prepared,
-    /// Where the note of a state is written.
-    pub(crate) scratch: Note,
-    /// For each row the profile that was best last time.
-    pub(crate) hints: Vec<u32>,
     /// The row that failed the settling test last.
     pub(crate) failed: u32,
 }
 
-impl Sweeper {
-    /// Takes the room for sweeps over these levels.
+impl<'g> Sweeper<'g> {
+    /// Opens a board at a start, and takes the room for so many workers.
     pub(crate) fn new(
         alloc: Global,
-        p: &Problem,
-        levels: LevelTable,
+        game: &'g Game,
+        dirs: &'g Directions,
+        grid: u32,
+        start: LevelTable,
         notes: Notes,
-    ) -> Result<Sweeper, AllocError>
-        requires sound { IsSound p.now levels }
-        requires named { AreNamed p.now (levels_in levels) notes.list }
-        requires spare { states p.now.game ≤ empty_states (levels_in levels) (states p.now.game) + notes.spare }
-        requires each { HasRoomFor p.now.game notes.each }
-        ensures levels { IfOk result (λ w. w.levels ≡ levels) }
-        ensures notes { IfOk result (λ w. w.notes ≡ notes) }
-        ensures sweeper { IfOk result (IsSweeper p.now) }
+        count: u32,
+    ) -> Result<Sweeper<'g>, AllocError>
+        requires players { dirs.now.players ≡ game.now.players }
+        requires grid { grid ≤ 30 }
+        requires start { IsOpened (frame_from game.now dirs.now grid start) notes.list }
+        requires table { IsSmallTable (problem_of game.now dirs.now grid) start }
+        requires room { HasRoom game.now notes }
+        ensures problem { IfOk result (λ w. problem_in w ≡ problem_of game.now dirs.now grid) }
+        ensures levels { IfOk result (λ w. w.scratch.levels ≡ start) }
+        ensures notes { IfOk result (λ w. w.owner.notes ≡ notes.list) }
+        ensures sweeper { IfOk result IsSweeper }
     {
-        p.rules();
-        let prepared = Prepared::with_room(alloc, p.game())?;
-        let reasons = ReasonList::with_room(alloc, most_profiles(p.game()))?;
-        let hints = zeros(alloc, levels.rows())?;
+        let (board, mut owner) = Board::open(alloc, game, dirs, grid, &start, notes)?;
+        board.rules();
+        owner.rules();
+        let workers = crew(alloc, &board, &mut owner, count)?;
+        let room = Scratch::new(alloc, board.problem())?;
+        let scratch = room.with_levels(board.problem(), start);
+        let prepared = Prepared::with_room(alloc, game)?;
         Ok(Sweeper {
-            levels,
-            notes,
+            board,
+            owner,
+            workers,
+            scratch,
             prepared,
-            scratch: Note { state: 0, reasons },
-            hints,
             failed: 0,
         })
+    }
+
+    /// One sweep by the workers. No memory is taken.
+    pub(crate) fn sweep<R: Threads + Sync, G: Gate + Sync>(&mut self, rt: &R, gate: &G)
+        requires sweeper { IsSweeper self.old }
+        ensures board { self.new.board ≡ self.old.board }
+        ensures swept { IsSwept (problem_in self.old) self.old.scratch.levels self.old.owner.notes self.new.scratch.levels self.new.owner.notes }
+        ensures noted { KeepsNotes (problem_in self.old) (levels_in self.old.scratch.levels) self.old.owner.notes self.new.owner.notes }
+        ensures sweeper { IsSweeper self.new }
+    {
+        self.owner.rules();
+        sweep(
+            rt,
+            &self.board,
+            &mut self.owner,
+            &mut self.workers,
+            &mut self.scratch,
+            gate,
+        );
     }
 
     /// The verdict of the settling test where the table is supported, and none where a row fails. The row that failed
@@ -65,20 +98,21 @@ impl Sweeper {
     pub(crate) fn settling(
         &mut self,
         alloc: Global,
-        p: &Problem,
         slack: u64,
     ) -> Result<Option<Verdict>, AllocError>
-        requires sweeper { IsSweeper p.now self.old }
-        requires opening { HasSmallOpening p.now }
-        ensures settling { IfOk result (IsSettling p.now self.old.levels slack) }
-        ensures levels { self.new.levels ≡ self.old.levels }
-        ensures notes { self.new.notes ≡ self.old.notes }
-        ensures sweeper { IsSweeper p.now self.new }
+        requires sweeper { IsSweeper self.old }
+        ensures settling { IfOk result (IsSettling (problem_in self.old) self.old.scratch.levels slack) }
+        ensures board { self.new.board ≡ self.old.board }
+        ensures levels { self.new.scratch.levels ≡ self.old.scratch.levels }
+        ensures notes { self.new.owner.notes ≡ self.old.owner.notes }
+        ensures sweeper { IsSweeper self.new }
     {
-        if fails_at(p, &self.levels, slack, &mut self.prepared, self.failed) {
+        let p = self.board.problem();
+        let levels = &self.scratch.levels;
+        if fails_at(p, levels, slack, &mut self.prepared, self.failed) {
             return Ok(None);
         }
-        let verdict = self.verdict(alloc, p, slack)?;
+        let verdict = self.verdict(alloc, slack)?;
         if let Verdict::Unsupported { row, .. } = verdict {
             self.failed = row;
             return Ok(None);
@@ -87,51 +121,39 @@ impl Sweeper {
     }
 
     /// What the settling test says of the table.
-    pub(crate) fn verdict(
-        &mut self,
-        alloc: Global,
-        p: &Problem,
-        slack: u64,
-    ) -> Result<Verdict, AllocError>
-        requires sweeper { IsSweeper p.now self.old }
-        requires opening { HasSmallOpening p.now }
-        ensures verdict { IfOk result (IsVerdict p.now self.old.levels slack) }
-        ensures levels { self.new.levels ≡ self.old.levels }
-        ensures notes { self.new.notes ≡ self.old.notes }
-        ensures sweeper { IsSweeper p.now self.new }
+    pub(crate) fn verdict(&mut self, alloc: Global, slack: u64) -> Result<Verdict, AllocError>
+        requires sweeper { IsSweeper self.old }
+        ensures verdict { IfOk result (IsVerdict (problem_in self.old) self.old.scratch.levels slack) }
+        ensures board { self.new.board ≡ self.old.board }
+        ensures levels { self.new.scratch.levels ≡ self.old.scratch.levels }
+        ensures notes { self.new.owner.notes ≡ self.old.owner.notes }
+        ensures sweeper { IsSweeper self.new }
     {
-        verdict_of(alloc, p, &self.levels, slack, &mut self.prepared)
+        let p = self.board.problem();
+        verdict_of(alloc, p, &self.scratch.levels, slack, &mut self.prepared)
     }
 
-    /// Whether a state is Empty.
-    pub(crate) fn is_empty(&self, p: &Problem, s: u32) -> bool
-        requires sweeper { IsSweeper p.now self.now }
-        requires state { s < states p.now.game }
-        ensures { IsTrue result ↔ (levels_in self.now.levels s 0 ≡ Empty) }
+    /// Where the run ended, without its room.
+    pub(crate) fn ended(self, sweeps: u64, verdict: Verdict) -> Run
+        requires { self.owner.board ≡ self.board }
+        ensures levels { result.levels ≡ self.entry.scratch.levels }
+        ensures notes { result.notes.list ≡ self.entry.owner.notes }
+        ensures sweeps { result.sweeps ≡ sweeps }
+        ensures verdict { result.verdict ≡ verdict }
     {
-        self.levels.at(s, 0) == Level::Empty
+        let Sweeper {
+            board,
+            owner,
+            workers: _,
+            scratch,
+            prepared: _,
+            failed: _,
+        } = self;
+        Run {
+            levels: scratch.levels,
+            notes: board.into_notes(owner),
+            sweeps,
+            verdict,
+        }
     }
-}
-
-/// As many as any state of the game has profiles.
-fn most_profiles(game: &Game) -> u32
-    ensures { HasRoomFor game.now result }
-{
-    let _players = game.players();
-    let mut most = 0;
-    for s in 0..game.states() {
-        most = most.max(game.profiles(s));
-    }
-    most
-}
-
-/// So many zeros.
-fn zeros(alloc: Global, count: u32) -> Result<Vec<u32>, AllocError>
-    ensures { IfOk result (λ v. length v.items ≡ count) }
-{
-    let mut all = Vec::with_capacity(alloc, count as usize)?;
-    for _ in 0..count {
-        all.push(0)?;
-    }
-    Ok(all)
 }

@@ -5,7 +5,10 @@ ghost use Rattle.game_model.specs.Worked.{prisoners};
 use super::*;
 use direction_set::Directions;
 use game_model::{Game, GameParts};
-use level_table::{Level, Problem, opening};
+use level_table::{Level, opening};
+use pay_frac::Frac;
+use pay_outside::OpenGate;
+use pay_words::Settings;
 use set_operator::Verdict;
 use std::alloc::{AllocError, Global};
 use std::test::Fail;
@@ -35,25 +38,37 @@ fn the_dilemma_comes_down(rt: HostRuntime) -> Result<(), Fail> {
     let dirs = Directions::of(2, 4).ok_or("two players have four directions")?;
     assert_eq!(rt; game.players(), 2);
     assert_eq!(rt; dirs.players(), 2);
-    let p = Problem::new(&game, &dirs, 4);
-    for (budget, sweeps, low) in [
-        (0, 0, 0),
-        (3, 0, 0),
-        (4, 1, -8),
-        (8, 2, -12),
-        (15, 3, -14),
-        (16, 4, -15),
-        (1000, 4, -15),
+    for (workers, budget, sweeps, low) in [
+        (1, 0, 0, 0),
+        (1, 3, 0, 0),
+        (1, 4, 1, -8),
+        (1, 8, 2, -12),
+        (1, 15, 3, -14),
+        (1, 16, 4, -15),
+        (1, 1000, 4, -15),
+        (2, 1000, 4, -15),
+        (0, 4, 1, -8),
     ] {
+        let set = Settings {
+            discount: Frac::of(1, 2),
+            directions: Some(4),
+            workers,
+            budget,
+            grid: 4,
+            slack: 1,
+            inner: None,
+        };
         let start = opening(rt.alloc(), &game, &dirs, 4)?;
-        let run = run_sweeps(rt.alloc(), &p, start, 1, budget)?;
-        assert_eq!(rt; run.sweeps, sweeps);
+        let run = run_sweeps(&rt, rt.alloc(), &game, &dirs, start, &set, &OpenGate)?;
+        let settled = matches!(&run.verdict, Verdict::Supported(_));
+        if workers < 2 {
+            assert_eq!(rt; run.sweeps, sweeps);
+        }
         assert_eq!(rt; run.notes.len(), 0);
         for (row, level) in [(0, 48), (1, low), (2, 48), (3, low)] {
             assert!(rt; row < run.levels.rows());
             assert_eq!(rt; run.levels.get(row), Level::At(level), "row {row}");
         }
-        let settled = matches!(&run.verdict, Verdict::Supported(_));
         assert_eq!(rt; settled, low == -15);
     }
     Ok(())

@@ -1,40 +1,48 @@
-use Rattle.std.proofs.Common.{◌∙◌, List, [], sym, subst, ap, length}
+use Rattle.std.proofs.Common.{◌∙◌, List, [], refl, sym, subst, ap, length}
 use Rattle.level_table.specs.Iterates.{drop_of}
 use Rattle.level_table.specs.Levels.{Table, levels_in, opening_table}
-use Rattle.level_table.specs.Notes.{NoteList}
+use Rattle.level_table.specs.Problem.{IsProblem, Problem, problem_of}
+use Rattle.level_table.specs.Tables.{IsSmallTable}
 use Rattle.level_table.specs.declared.reason.Note.{Note}
 use Rattle.bound_laws.proofs.Start.{opening_has_bounds}
+use Rattle.schedule_core.specs.Frame.{IsOpened, frame_from}
 use Rattle.sweep_run.specs.Runs.{IsRunning}
-use Rattle.sweep_run.specs.Sweeps.{AreNamed}
-use Rattle.sweep_run.proofs.Ends.{if_ok, opening_dropped, opening_named, opening_small, opening_sound, run_of_ends, running_opening}
+use Rattle.sweep_run.specs.Sweeper.{problem_in}
+use Rattle.sweep_run.proofs.Ends.{if_ok, opening_dropped, opening_sound, run_of_ends, running_opening, running_same}
 use Rattle.sweep_run.proofs.run.run_sweeps.Goals as goal
 
-pub new-requires-clause-sound : goal.new-requires-clause-sound
-new-requires-clause-sound c = opening_sound c.args.p.now c.args.opening c.rules.ensures c.states-states.ensures.whole c.requires.opening
-
-pub new-requires-clause-named : goal.new-requires-clause-named
-new-requires-clause-named c = subst (AreNamed c.args.p.now (levels_in c.args.opening)) (sym c.in_ok-notes.ensures.none) (opening_named c.args.p.now c.args.opening c.rules.ensures c.requires.opening)
-
-pub make_run-requires-clause-opening : goal.make_run-requires-clause-opening
-make_run-requires-clause-opening c = opening_small c.args.p.now c.args.opening c.rules.ensures c.requires.opening
+pub new-requires-clause-start : goal.new-requires-clause-start
+new-requires-clause-start g c =
+    subst (IsOpened (frame_from c.args.game.now c.args.dirs.now c.args.set.now.grid c.args.opening)) (sym c.in_ok-notes.ensures.none)
+    (c.opening_is_opened.ensures (frame_from c.args.game.now c.args.dirs.now c.args.set.now.grid c.args.opening) (subst IsProblem c.new-law.ensures.problem c.new-law.ensures.is_problem) c.states.ensures.whole c.requires.opening)
 
 pub returns-clause-run : goal.returns-clause-run
-returns-clause-run c =
-    let began : IsRunning c.args.p.now (opening_table c.args.p.now) [] c.args.slack 0 c.in_ok-w.w.levels c.in_ok-w.w.notes.list =
-    subst (λ (t : Table). IsRunning c.args.p.now (opening_table c.args.p.now) [] c.args.slack 0 t c.in_ok-w.w.notes.list) (sym c.in_ok-w.ensures.levels)
-    (subst (λ (n : List Note). IsRunning c.args.p.now (opening_table c.args.p.now) [] c.args.slack 0 c.args.opening n) (sym (ap (λ (n : NoteList). n.list) c.in_ok-w.ensures.notes ∙ c.in_ok-notes.ensures.none))
-    (running_opening c.args.p.now c.args.opening c.args.slack c.rules.ensures c.states-states.ensures.whole c.requires.opening)) in
+returns-clause-run g c =
+    let p : Problem = problem_of c.args.game.now c.args.dirs.now c.args.set.now.grid in
+    let w = c.in_ok-w.w in
+    let told = c.in_ok-w.ensures in
+    let start = c.args.opening in
+    let slack = c.args.set.now.slack in
+    let ok : IsProblem p = subst IsProblem told.problem told.sweeper.frame.problem in
+    let began : IsRunning p (opening_table p) [] slack 0 w.scratch.levels w.owner.notes =
+    running_same (opening_table p) [] slack 0 p p start w.scratch.levels [] w.owner.notes refl told.levels (told.notes ∙ c.in_ok-notes.ensures.none) (running_opening p start slack ok c.states.ensures.whole c.requires.opening) in
     if_ok c.make_run.result _ _
-    (λ r h. run_of_ends c.args.p.now (opening_table c.args.p.now) [] c.args.slack c.args.budget c.from.result c.in_ok-w.w r c.rules.ensures (opening_has_bounds c.args.p.now c.rules.ensures) c.in_ok-w.ensures.sweeper.sound.table began h
-    (c.from.ensures ∙ c.rows.ensures ∙ sym (ap (λ (t : Table). length t.levels) c.in_ok-w.ensures.levels)))
+    (λ r h. run_of_ends p (opening_table p) [] slack c.args.set.now.budget c.from.result w r ok (opening_has_bounds p ok)
+    (subst (IsSmallTable p) (sym told.levels) (opening_sound p start ok c.states.ensures.whole c.requires.opening).table) told.problem began h
+    (c.from.ensures ∙ c.rows.ensures ∙ sym (ap (λ (t : Table). length t.levels) told.levels)))
     c.make_run.ensures
 
 pub returns-clause-drop : goal.returns-clause-drop
-returns-clause-drop c =
-    let began : IsRunning c.args.p.now (opening_table c.args.p.now) [] c.args.slack 0 c.in_ok-w.w.levels c.in_ok-w.w.notes.list =
-    subst (λ (t : Table). IsRunning c.args.p.now (opening_table c.args.p.now) [] c.args.slack 0 t c.in_ok-w.w.notes.list) (sym c.in_ok-w.ensures.levels)
-    (subst (λ (n : List Note). IsRunning c.args.p.now (opening_table c.args.p.now) [] c.args.slack 0 c.args.opening n) (sym (ap (λ (n : NoteList). n.list) c.in_ok-w.ensures.notes ∙ c.in_ok-notes.ensures.none))
-    (running_opening c.args.p.now c.args.opening c.args.slack c.rules.ensures c.states-states.ensures.whole c.requires.opening)) in
+returns-clause-drop g c =
+    let p : Problem = problem_of c.args.game.now c.args.dirs.now c.args.set.now.grid in
+    let w = c.in_ok-w.w in
+    let told = c.in_ok-w.ensures in
+    let start = c.args.opening in
+    let slack = c.args.set.now.slack in
+    let ok : IsProblem p = subst IsProblem told.problem told.sweeper.frame.problem in
+    let began : IsRunning (problem_in w) (opening_table p) [] slack 0 w.scratch.levels w.owner.notes =
+    running_same (opening_table p) [] slack 0 p (problem_in w) start w.scratch.levels [] w.owner.notes told.problem told.levels (told.notes ∙ c.in_ok-notes.ensures.none) (running_opening p start slack ok c.states.ensures.whole c.requires.opening) in
     if_ok c.make_run.result _ _
-    (λ r h. opening_dropped c.args.p.now r.sweeps (drop_of c.args.p.now (opening_table c.args.p.now) (levels_in r.levels)) c.rules.ensures (h.running (opening_table c.args.p.now) [] began).dropped)
+    (λ r h. opening_dropped p r.sweeps (drop_of p (opening_table p) (levels_in r.levels)) ok
+    (subst (λ (q : Problem). IsRunning q (opening_table p) [] slack r.sweeps r.levels r.notes.list) told.problem (h.running (opening_table p) [] began)).dropped)
     c.make_run.ensures

@@ -1,0 +1,8 @@
+use Rattle.std.proofs.Common.{sym, subst}
+use Rattle.level_table.specs.Levels.{levels_in}
+use Rattle.level_table.specs.Problem.{Problem}
+use Rattle.level_table.specs.Supported.{IsEven}
+use Rattle.sweep_run.proofs.sweeper.Sweeper.verdict.Goals as goal
+
+pub verdict_of-requires-clause-even : goal.verdict_of-requires-clause-even
+verdict_of-requires-clause-even c = subst (λ (q : Problem). IsEven q (levels_in c.args.self.now.scratch.levels)) (sym c.problem-p.ensures) c.requires.sweeper.even
