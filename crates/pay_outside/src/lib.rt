@@ -8,7 +8,7 @@ mod real;
 mod shelf;
 mod sink;
 
-pub use gate::{Gate, OpenGate};
+pub use gate::{Gate, HoldGate, OpenGate};
 pub use mem::{MemShelf, MemSink, SINK_ROOM};
 pub use real::{FileShelf, StdSink};
 pub use shelf::{Shelf, ShelfFault};

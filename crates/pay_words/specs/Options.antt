@@ -69,7 +69,7 @@ abbrev pub usual_settings : Settings
 usual_settings = record {
   discount = record { num = pos 9; den = pos 10 };
   directions = None;
-  workers = 1;
+  workers = 2;
   budget = 1000000;
   grid = 16;
   slack = 1;

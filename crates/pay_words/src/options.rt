@@ -8,7 +8,7 @@ ghost use Rattle.std.specs.Prelude.{◌+◌, ◌++◌, ◌<◌, ◌≤◌, ◌^�
 use pay_frac::{Frac, read_digits, read_number};
 
 /// The most workers of a run.
-pub const MOST_WORKERS: u32 = 1;
+pub const MOST_WORKERS: u32 = 16;
 
 /// The largest fineness of the inner sets, of which there are none at 0.
 pub const MOST_INNER: u32 = 0;
@@ -62,7 +62,7 @@ impl Settings {
         Settings {
             discount: Frac::of(9, 10),
             directions: None,
-            workers: 1,
+            workers: 2,
             budget: 1_000_000,
             grid: 16,
             slack: 1,

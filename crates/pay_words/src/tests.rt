@@ -21,6 +21,7 @@ fn misfits(rt: HostRuntime) -> Result<(), Fail> {
         ("solve pd.nfg discount=-1/2", 2),
         ("solve pd.nfg discount=", 2),
         ("solve pd.nfg workers=0", 2),
+        ("solve pd.nfg workers=17", 2),
         ("solve pd.nfg slack=1 slack=2", 3),
         ("solve pd.nfg grid=31", 2),
         ("solve pd.nfg slack=0", 2),
@@ -44,12 +45,13 @@ fn misfits(rt: HostRuntime) -> Result<(), Fail> {
 
 #[test]
 fn commands(rt: HostRuntime) -> Result<(), Fail> {
-    for (line, discount, directions, budget, grid, slack, inner) in [
-        ("solve pd.nfg", (9, 10), None, 1_000_000, 16, 1, None),
+    for (line, discount, directions, workers, budget, grid, slack, inner) in [
+        ("solve pd.nfg", (9, 10), None, 2, 1_000_000, 16, 1, None),
         (
             "solve pd.nfg discount=1/2000",
             (1, 2000),
             None,
+            2,
             1_000_000,
             16,
             1,
@@ -59,15 +61,17 @@ fn commands(rt: HostRuntime) -> Result<(), Fail> {
             "solve pd.nfg discount=.9 budget=1000000000000000",
             (9, 10),
             None,
+            2,
             1_000_000_000_000_000,
             16,
             1,
             None,
         ),
         (
-            "solve pd.nfg discount=1/2 directions=4 grid=4 workers=1 inner=0 budget=15 slack=1000000000",
+            "solve pd.nfg discount=1/2 directions=4 grid=4 workers=16 inner=0 budget=15 slack=1000000000",
             (1, 2),
             Some(4),
+            16,
             15,
             4,
             1_000_000_000,
@@ -77,6 +81,7 @@ fn commands(rt: HostRuntime) -> Result<(), Fail> {
             "solve pd.nfg slack=01000000000 budget=000000000000000015 inner=0 workers=01 grid=04 directions=4 discount=.50",
             (1, 2),
             Some(4),
+            1,
             15,
             4,
             1_000_000_000,
@@ -91,7 +96,7 @@ fn commands(rt: HostRuntime) -> Result<(), Fail> {
                 assert_eq!(rt; set.discount.num(), discount.0, "{line}");
                 assert_eq!(rt; set.discount.den(), discount.1, "{line}");
                 assert_eq!(rt; set.directions, directions, "{line}");
-                assert_eq!(rt; set.workers, 1, "{line}");
+                assert_eq!(rt; set.workers, workers, "{line}");
                 assert_eq!(rt; set.budget, budget, "{line}");
                 assert_eq!(rt; set.grid, grid, "{line}");
                 assert_eq!(rt; set.slack, slack, "{line}");

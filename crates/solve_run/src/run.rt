@@ -26,12 +26,12 @@ const LONGEST_FILE: usize = 1_048_576;
 /// Runs one command: reads the words and the file that they name, bounds the payoff set of the game and
 /// writes the report.
 pub fn payoff_run<R: Threads + Sync, S: Shelf, K: Sink, G: Gate + Sync>(
-    _rt: &R,
+    rt: &R,
     alloc: Global,
     words: &[String],
     shelf: &mut S,
     sink: &mut K,
-    _gate: &G,
+    gate: &G,
 ) -> Outcome
     requires few_words { length words.now < 2 ^ 32 }
     requires may_ask { 1 < length words.now → S.may_ask shelf.old (file_name (words_in words.now)) }
@@ -49,7 +49,7 @@ pub fn payoff_run<R: Threads + Sync, S: Shelf, K: Sink, G: Gate + Sync>(
     ensures misfit { (index : ℕ) → IsMisfit (words_in words.now) index → result.status ≡ Status.Usage index }
 {
     command_laws();
-    match solve(alloc, words, shelf) {
+    match solve(rt, alloc, words, shelf, gate) {
         Err(refusal) => Outcome {
             status: refusal.status(),
             report: None,
@@ -98,7 +98,13 @@ fn status_of(report: &Report) -> Status
 }
 
 /// The report that the words ask for, or why there is none.
-fn solve<S: Shelf>(alloc: Global, words: &[String], shelf: &mut S) -> Result<Report, Refusal>
+fn solve<R: Threads + Sync, S: Shelf, G: Gate + Sync>(
+    rt: &R,
+    alloc: Global,
+    words: &[String],
+    shelf: &mut S,
+    gate: &G,
+) -> Result<Report, Refusal>
     requires few_words { length words.now < 2 ^ 32 }
     requires may_ask { 1 < length words.now → S.may_ask shelf.old (file_name (words_in words.now)) }
     ensures found { IfOk result (λ report. IsAnswer (words_in words.now) (S.bytes shelf.old (file_name (words_in words.now))) report) }
@@ -113,7 +119,7 @@ fn solve<S: Shelf>(alloc: Global, words: &[String], shelf: &mut S) -> Result<Rep
     };
     match read_file(alloc, name_in(words), shelf) {
         Err(refusal) => Err(refusal),
-        Ok(game) => report_of(alloc, &game, &set),
+        Ok(game) => report_of(rt, alloc, &game, &set, gate),
     }
 }
 

@@ -17,9 +17,11 @@ use game_model::{Game, List};
 use level_table::{LevelTable, OpeningFault, Problem, opening, unit};
 use nfg_text::{Nfg, What};
 use pay_frac::Frac;
+use pay_outside::Gate;
 use pay_words::Settings;
 use report_text::Report;
 use std::alloc::{AllocError, Global};
+use std::thread::Threads;
 use sweep_run::run_sweeps;
 
 /// The largest denominator of a discount factor.
@@ -29,7 +31,13 @@ const MOST_DENOMINATOR: i128 = 1024;
 const USUAL_DIRECTIONS: u32 = 16;
 
 /// Bounds the payoff set of the file's game.
-pub(crate) fn report_of(alloc: Global, file: &Nfg, set: &Settings) -> Result<Report, Refusal>
+pub(crate) fn report_of<R: Threads + Sync, G: Gate + Sync>(
+    rt: &R,
+    alloc: Global,
+    file: &Nfg,
+    set: &Settings,
+    gate: &G,
+) -> Result<Report, Refusal>
     requires file { IsPlain file.now }
     requires limits { AreWithinLimits set.now }
     ensures solved { IfOk result (IsSolvedBy file.now set.now) }
@@ -47,12 +55,18 @@ pub(crate) fn report_of(alloc: Global, file: &Nfg, set: &Settings) -> Result<Rep
     };
     match game_of(alloc, file, p, q) {
         Err(_) => Err(Refusal::NoMemory),
-        Ok(game) => report_on(alloc, &game, set),
+        Ok(game) => report_on(rt, alloc, &game, set, gate),
     }
 }
 
 /// Bounds the payoff set of a game.
-fn report_on(alloc: Global, game: &Game, set: &Settings) -> Result<Report, Refusal>
+fn report_on<R: Threads + Sync, G: Gate + Sync>(
+    rt: &R,
+    alloc: Global,
+    game: &Game,
+    set: &Settings,
+    gate: &G,
+) -> Result<Report, Refusal>
     requires limits { AreWithinLimits set.now }
     requires players { game.now.players ≡ 2 }
     ensures solved { IfOk result (IsReportOf (problem_of game.now (directions_of set.now) set.now.grid) set.now.slack set.now.budget) }
@@ -71,33 +85,39 @@ fn report_on(alloc: Global, game: &Game, set: &Settings) -> Result<Report, Refus
             });
         }
     };
-    let p = Problem::new(game, &dirs, set.grid);
-    match solved(alloc, &p, start, set) {
+    match reported(rt, alloc, game, &dirs, start, set, gate) {
         Ok(report) => Ok(report),
         Err(_) => Err(Refusal::NoMemory),
     }
 }
 
 /// The report of a run from the opening.
-fn solved(
+fn reported<R: Threads + Sync, G: Gate + Sync>(
+    rt: &R,
     alloc: Global,
-    p: &Problem,
+    game: &Game,
+    dirs: &Directions,
     start: LevelTable,
     set: &Settings,
+    gate: &G,
 ) -> Result<Report, AllocError>
-    requires opening { IsOpening p.now start }
+    requires players { dirs.now.players ≡ game.now.players }
+    requires grid { set.now.grid ≤ 30 }
+    requires opening { IsOpening (problem_of game.now dirs.now set.now.grid) start }
     requires slack { 1 ≤ set.now.slack }
-    ensures solved { IfOk result (IsReportOf p.now set.now.slack set.now.budget) }
+    ensures solved { IfOk result (IsReportOf (problem_of game.now dirs.now set.now.grid) set.now.slack set.now.budget) }
+    ensures small { OnOk result (HasSmallOpening (problem_of game.now dirs.now set.now.grid)) }
     ensures printable { IfOk result IsPrintable }
 {
-    let discounts = discounts_of(alloc, p.game())?;
-    let run = run_sweeps(alloc, p, start, set.slack, set.budget)?;
+    let p = Problem::new(game, dirs, set.grid);
+    let discounts = discounts_of(alloc, game)?;
+    let run = run_sweeps(rt, alloc, game, dirs, start, set, gate)?;
     Ok(Report {
         players: p.players(),
         states: p.states(),
         directions: p.directions(),
         discounts,
-        unit: unit(p.game(), p.grid()),
+        unit: unit(game, set.grid),
         slack: set.slack,
         sweeps: run.sweeps,
         levels: run.levels,

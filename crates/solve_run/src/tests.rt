@@ -1,9 +1,11 @@
 // Runs over files and a sink in memory: the words, the file, and what comes of them.
 use super::*;
 use nfg_text::What;
-use pay_outside::{MemShelf, MemSink, OpenGate};
+use pay_outside::{Gate, HoldGate, MemShelf, MemSink, OpenGate};
 use std::alloc::Global;
 use std::process::Abort;
+use std::sync::atomic::AtomicU64;
+use std::sync::atomic::Ordering::SeqCst;
 use std::test::Fail;
 use std::thread::Threads;
 
@@ -30,21 +32,23 @@ const AT_HALF: [&str; 7] = [
     "inner=0",
 ];
 
-const OUT_OF_ORDER: [&str; 6] = [
+const OUT_OF_ORDER: [&str; 7] = [
     "solve",
     "pd.nfg",
     "inner=0",
+    "workers=1",
     "grid=4",
     "directions=4",
     "discount=.5",
 ];
 
-const SLACK_2: [&str; 6] = [
+const SLACK_2: [&str; 7] = [
     "solve",
     "pd.nfg",
     "discount=1/2",
     "directions=4",
     "grid=4",
+    "workers=1",
     "slack=2",
 ];
 
@@ -86,6 +90,18 @@ fn run<R: Threads + Sync + Abort>(
     content: Option<Vec<u8>>,
     sink: &mut MemSink,
 ) -> Result<Status, Fail> {
+    run_at(rt, alloc, texts, content, sink, &OpenGate)
+}
+
+/// The same at a gate.
+fn run_at<R: Threads + Sync + Abort, G: Gate + Sync>(
+    rt: &R,
+    alloc: Global,
+    texts: &[&str],
+    content: Option<Vec<u8>>,
+    sink: &mut MemSink,
+    gate: &G,
+) -> Result<Status, Fail> {
     let mut words = Vec::new(alloc);
     for text in texts {
         words.push(String::from_str(alloc, text)?)?;
@@ -96,7 +112,7 @@ fn run<R: Threads + Sync + Abort>(
     }
     let mut shelf = MemShelf::new(files, Vec::new(alloc));
     assert!(rt; words.len() < 100);
-    let outcome = payoff_run(rt, alloc, &words, &mut shelf, sink, &OpenGate);
+    let outcome = payoff_run(rt, alloc, &words, &mut shelf, sink, gate);
     Ok(outcome.status)
 }
 
@@ -253,6 +269,7 @@ fn words_that_do_not_fit_are_named(rt: HostRuntime) -> Result<(), Fail> {
         (&["solve", "pd.nfg", "discount=1"][..], 2),
         (&["solve", "pd.nfg", "discount=0"][..], 2),
         (&["solve", "pd.nfg", "workers=0"][..], 2),
+        (&["solve", "pd.nfg", "workers=17"][..], 2),
         (&with_word("slack=0")[..], 7),
         (&with_word("grid=4")[..], 7),
     ] {
@@ -300,5 +317,154 @@ fn output_that_fails_is_told(rt: HostRuntime) -> Result<(), Fail> {
     let mut sink = MemSink::new(alloc, 1_000_000, vec![in alloc; 1u64]?)?;
     let status = run(&rt, alloc, &AT_HALF, Some(PD.to_vec(alloc)?), &mut sink)?;
     assert_eq!(rt; status, Status::Settled);
+    Ok(())
+}
+
+/// What stands in a text before the first place of another, and from there on.
+fn split_at_first<'t>(text: &'t [u8], mark: &[u8]) -> (&'t [u8], &'t [u8]) {
+    for at in 0..text.len() {
+        if text[at..].starts_with(mark) {
+            return (&text[..at], &text[at..]);
+        }
+    }
+    (text, &text[..0])
+}
+
+/// The lines of rows.
+fn rows_in(text: &[u8]) -> &[u8] {
+    let rows = split_at_first(text, b"\nrow ").1;
+    split_at_first(split_at_first(rows, b"\npoint ").0, b"\nempty ").0
+}
+
+/// Runs a game to its end by one worker and by several, whose rows are the same.
+fn compare<R: Threads + Sync + Abort>(
+    rt: &R,
+    alloc: Global,
+    content: &[u8],
+    discount: &str,
+    directions: &str,
+    workers: &str,
+) -> Result<(), Fail> {
+    let words = ["solve", "pd.nfg", discount, directions, "grid=4", workers];
+    let alone = ["solve", "pd.nfg", discount, directions, "grid=4", "workers=1"];
+    let mut one = MemSink::new(alloc, 100, Vec::new(alloc))?;
+    let mut many = MemSink::new(alloc, 100, Vec::new(alloc))?;
+    let first = run(rt, alloc, &alone, Some(content.to_vec(alloc)?), &mut one)?;
+    let second = run(rt, alloc, &words, Some(content.to_vec(alloc)?), &mut many)?;
+    assert_eq!(rt; first, Status::Settled);
+    assert_eq!(rt; second, Status::Settled);
+    assert!(rt; !rows_in(one.taken()).is_empty());
+    assert_eq!(rt; rows_in(one.taken()), rows_in(many.taken()));
+    Ok(())
+}
+
+#[test]
+fn workers_find_the_same(rt: HostRuntime) -> Result<(), Fail> {
+    let alloc = rt.alloc();
+    for workers in ["workers=2", "workers=4", "workers=16"] {
+        for content in [PD, MP, SELTEN, ONE, BIG] {
+            compare(&rt, alloc, content, "discount=1/2", "directions=4", workers)?;
+        }
+        compare(&rt, alloc, PD, "discount=9/10", "directions=8", workers)?;
+        compare(&rt, alloc, SELTEN, "discount=9/10", "directions=16", workers)?;
+    }
+    Ok(())
+}
+
+/// The next number of a fixed sequence.
+fn next(seed: u64) -> u64 {
+    seed.wrapping_mul(6_364_136_223_846_793_005)
+        .wrapping_add(1_442_695_040_888_963_407)
+}
+
+/// A game of two or three strategies each with payoffs from 0 to 9.
+fn generated(alloc: Global, seed: u64) -> Result<Vec<u8>, Fail> {
+    let mut state = next(seed);
+    let rows = 2 + (state >> 40) % 2;
+    let columns = 2 + (state >> 50) % 2;
+    let mut text = b"NFG 1 R \"g\" { \"1\" \"2\" } { ".to_vec(alloc)?;
+    text.push(b'0' + rows as u8)?;
+    text.push(b' ')?;
+    text.push(b'0' + columns as u8)?;
+    text.extend_from_slice(b" }")?;
+    for _ in 0..2 * rows * columns {
+        state = next(state);
+        text.push(b' ')?;
+        text.push(b'0' + ((state >> 33) % 10) as u8)?;
+    }
+    Ok(text)
+}
+
+#[test]
+fn generated_games_settle_alike(rt: HostRuntime) -> Result<(), Fail> {
+    let alloc = rt.alloc();
+    for seed in 0..200 {
+        let content = generated(alloc, seed)?;
+        compare(&rt, alloc, &content, "discount=1/2", "directions=4", "workers=4")?;
+    }
+    Ok(())
+}
+
+#[test]
+fn a_worker_that_is_held_is_not_waited_for(rt: HostRuntime) -> Result<(), Fail> {
+    let alloc = rt.alloc();
+    let words = [
+        "solve",
+        "pd.nfg",
+        "discount=1/2",
+        "directions=4",
+        "grid=4",
+        "workers=2",
+    ];
+    for (held, rows) in [(0, 1), (1, 1), (0, 3), (1, 3)] {
+        let gate = HoldGate::new(held, rows);
+        let mut sink = MemSink::new(alloc, 100, Vec::new(alloc))?;
+        let content = PD.to_vec(alloc)?;
+        let status = run_at(&rt, alloc, &words, Some(content), &mut sink, &gate)?;
+        assert_eq!(rt; status, Status::Settled);
+        assert!(rt; !gate.gave_up());
+        assert!(rt; gate.back() >= rows);
+    }
+    Ok(())
+}
+
+/// A gate that counts for each of four rows, in 16 bits, how often a worker went in and came back.
+#[derive(Drop)]
+struct CountGate {
+    before: AtomicU64,
+    after: AtomicU64,
+}
+
+impl Gate for CountGate {
+    fn before(&self, _worker: u32, row: u32) {
+        self.before.fetch_add(1 << (16 * (row % 4)), SeqCst);
+    }
+
+    fn after(&self, _worker: u32, row: u32) {
+        self.after.fetch_add(1 << (16 * (row % 4)), SeqCst);
+    }
+}
+
+#[test]
+fn each_row_is_drawn_once(rt: HostRuntime) -> Result<(), Fail> {
+    let alloc = rt.alloc();
+    let words = [
+        "solve",
+        "pd.nfg",
+        "discount=1/2",
+        "directions=4",
+        "grid=4",
+        "workers=4",
+        "budget=4",
+    ];
+    let gate = CountGate {
+        before: AtomicU64::new(0),
+        after: AtomicU64::new(0),
+    };
+    let mut sink = MemSink::new(alloc, 100, Vec::new(alloc))?;
+    let content = PD.to_vec(alloc)?;
+    run_at(&rt, alloc, &words, Some(content), &mut sink, &gate)?;
+    assert_eq!(rt; gate.before.load(SeqCst), 0x0001_0001_0001_0001);
+    assert_eq!(rt; gate.after.load(SeqCst), 0x0001_0001_0001_0001);
     Ok(())
 }

@@ -116,4 +116,3 @@ named_cleared p t v notes s note h state is cleared others u known = (to, from)
         (λ (same : u ≡ s). subst (Named (notes ++ note ∷ [])) (is ∙ sym same) (named_new notes note))
         (λ (ne : u ≡ s → ⊥). named_old notes note u ((h u known).1 (sym (others u ne) ∙ e)))
         (cases_eq u s)
-

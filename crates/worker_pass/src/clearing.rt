@@ -135,9 +135,7 @@ fn name_state(board: &Board<'_>, owner: &mut Owner, scratch: &mut Scratch, s: u3
     board.rules();
     owner.rules();
     scratch.note.state = s;
-    scratch
-        .prepared
-        .explain(board.problem(), &scratch.levels, &mut scratch.note.reasons);
+    scratch.prepared.explain(board.problem(), &scratch.levels, &mut scratch.note.reasons);
     board.keep(owner, &mut scratch.note);
 }
 

@@ -66,12 +66,7 @@ fn update_unmarked(
 }
 
 /// Updates each row that no worker has marked.
-fn update_rest(
-    board: &Board<'_>,
-    pass: &mut Pass,
-    scratch: &mut Scratch,
-    workers: &Vec<Worker>,
-)
+fn update_rest(board: &Board<'_>, pass: &mut Pass, scratch: &mut Scratch, workers: &Vec<Worker>)
     requires board { pass.old.board ≡ board.now }
     requires scratch { IsScratch board.now.frame.problem scratch.old }
     requires workers { All (λ w. IsWorkerOf board.now w) workers.now.items }
@@ -120,12 +115,7 @@ fn join_all(board: &Board<'_>, owner: &mut Owner, workers: &mut Vec<Worker>)
 }
 
 /// Updates each row that no worker has marked with a pass of the owner, if there are any.
-fn finish_rows(
-    board: &Board<'_>,
-    owner: &mut Owner,
-    workers: &Vec<Worker>,
-    scratch: &mut Scratch,
-)
+fn finish_rows(board: &Board<'_>, owner: &mut Owner, workers: &Vec<Worker>, scratch: &mut Scratch)
     requires owner { owner.old.board ≡ board.now }
     requires scratch { IsScratch board.now.frame.problem scratch.old }
     requires workers { All (λ w. IsWorkerOf board.now w) workers.now.items }

@@ -143,12 +143,7 @@ fn load_after(board: &Board<'_>, pass: &mut Pass, scratch: &mut Scratch, s: u32,
 }
 
 /// Loads a row, and unless it is Empty all other rows of the states that follow its state. Answers the row's level.
-pub(crate) fn load_for(
-    board: &Board<'_>,
-    pass: &mut Pass,
-    scratch: &mut Scratch,
-    row: u32,
-) -> Level
+pub(crate) fn load_for(board: &Board<'_>, pass: &mut Pass, scratch: &mut Scratch, row: u32) -> Level
     requires board { pass.old.board ≡ board.now }
     requires scratch { IsScratch board.now.frame.problem scratch.old }
     requires row { row < rows_of board.now.frame }

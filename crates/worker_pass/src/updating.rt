@@ -88,13 +88,7 @@ pub(crate) fn take_down(board: &Board<'_>, pass: &mut Pass, scratch: &mut Scratc
 }
 
 /// Lowers a row that was loaded with this level to the row level of what was loaded, where that is less.
-fn lower_to_less(
-    board: &Board<'_>,
-    pass: &mut Pass,
-    scratch: &mut Scratch,
-    row: u32,
-    level: i64,
-)
+fn lower_to_less(board: &Board<'_>, pass: &mut Pass, scratch: &mut Scratch, row: u32, level: i64)
     requires board { pass.old.board ≡ board.now }
     requires scratch { IsScratch board.now.frame.problem scratch.old }
     requires row { row < rows_of board.now.frame }
@@ -112,7 +106,10 @@ fn lower_to_less(
     let p = board.problem();
     scratch.make_ready(p, place.state);
     let hint = scratch.hints[row as usize];
-    match scratch.prepared.lesser(p, &scratch.levels, place.dir, level, hint) {
+    match scratch
+        .prepared
+        .lesser(p, &scratch.levels, place.dir, level, hint)
+    {
         Some(found) => {
             scratch.hints[row as usize] = found.profile;
             if found.level < level {

@@ -59,11 +59,13 @@ returns-then-found-level-clause-lowering c =
     lesser_here f.problem c.problem-p.result.now t c.make_ready.new.self.levels (row / d) c.make_ready.new.self.prepared.state (row % d) c.place_of-place.result.dir c.args.level _ (Some found)
     c.problem-p.ensures c.make_ready.ensures.levels (c.make_ready.ensures.state ∙ c.place_of-place.ensures.state) c.place_of-place.ensures.dir back c.in-Some.ensures in
     let small : IsSmall (At c.args.level) = subst IsSmall (sym c.requires.here ∙ c.requires.level) (seen.sound row c.requires.row).small in
-    let fits = lesser_fits f t v row c.args.level found ok c.requires.row (scratch_directions f t ok c.requires.scratch.table) seen c.requires.after small h in
-    (notes.Lowered (to_z w64 (of_z w64 found.level)), lowers_seen f t v c.lower.new.pass.seen row c.lower.result (to_z w64 (of_z w64 found.level))
-    (subst (λ (z : ℤ). IsRowLevelOf f t row (At z)) (sym fits)
-    (less_is_row_level f.problem (levels_in t) (row / d) (row % d) c.args.level found.level found (ok.problem, row_known f row ok c.requires.row) h refl (less c.args.level found.level _ _ back fits (lt_z_yes (T_from_true _ c.if-found-level.true)))))
-    c.lower.ensures.seen c.lower.ensures.back c.lower.ensures.fallen)
+    let fits = lesser_fits f t v row c.args.level found ok c.requires.row (scratch_directions f t ok c.requires.scratch.table) seen c.requires.after small h in (
+      notes.Lowered (to_z w64 (of_z w64 found.level)),
+      lowers_seen f t v c.lower.new.pass.seen row c.lower.result (to_z w64 (of_z w64 found.level))
+          (subst (λ (z : ℤ). IsRowLevelOf f t row (At z)) (sym fits)
+          (less_is_row_level f.problem (levels_in t) (row / d) (row % d) c.args.level found.level found (ok.problem, row_known f row ok c.requires.row) h refl (less c.args.level found.level _ _ back fits (lt_z_yes (T_from_true _ c.if-found-level.true)))))
+          c.lower.ensures.seen c.lower.ensures.back c.lower.ensures.fallen,
+    )
 
 pub returns-else-found-level-clause-scratch : goal.returns-else-found-level-clause-scratch
 returns-else-found-level-clause-scratch c =
@@ -95,6 +97,11 @@ returns-in-None-clause-lowering c =
     let f = c.args.board.now.frame in
     let d = f.start.directions in
     let row = c.args.row in
-    let back : to_z w64 (of_z w64 c.args.level) ≡ c.args.level = to_z-of_z w64 c.args.level c.ranges.level in
-    (notes.NothingAdmissible, (lesser_here f.problem c.problem-p.result.now c.args.scratch.now.levels c.make_ready.new.self.levels (row / d) c.make_ready.new.self.prepared.state (row % d) c.place_of-place.result.dir c.args.level _ None
-    c.problem-p.ensures c.make_ready.ensures.levels (c.make_ready.ensures.state ∙ c.place_of-place.ensures.state) c.place_of-place.ensures.dir back c.in-None.ensures, refl))
+    let back : to_z w64 (of_z w64 c.args.level) ≡ c.args.level = to_z-of_z w64 c.args.level c.ranges.level in (
+      notes.NothingAdmissible,
+      (
+        lesser_here f.problem c.problem-p.result.now c.args.scratch.now.levels c.make_ready.new.self.levels (row / d) c.make_ready.new.self.prepared.state (row % d) c.place_of-place.result.dir c.args.level _ None
+            c.problem-p.ensures c.make_ready.ensures.levels (c.make_ready.ensures.state ∙ c.place_of-place.ensures.state) c.place_of-place.ensures.dir back c.in-None.ensures,
+        refl,
+      ),
+    )

@@ -48,6 +48,8 @@ pub returns-in-EmptyState-clause-lowering : goal.returns-in-EmptyState-clause-lo
 returns-in-EmptyState-clause-lowering c =
     let f = c.args.board.now.frame in
     let d = f.start.directions in
-    let row = c.args.row in
-    (answer_here f.problem c.problem-p.result.now c.args.scratch.now.levels c.make_ready.new.self.levels (row / d) c.make_ready.new.self.prepared.state (row % d) c.place_of-place.result.dir answers.EmptyState
-    c.problem-p.ensures c.make_ready.ensures.levels (c.make_ready.ensures.state ∙ c.place_of-place.ensures.state) c.place_of-place.ensures.dir c.in-EmptyState.ensures, refl)
+    let row = c.args.row in (
+      answer_here f.problem c.problem-p.result.now c.args.scratch.now.levels c.make_ready.new.self.levels (row / d) c.make_ready.new.self.prepared.state (row % d) c.place_of-place.result.dir answers.EmptyState
+          c.problem-p.ensures c.make_ready.ensures.levels (c.make_ready.ensures.state ∙ c.place_of-place.ensures.state) c.place_of-place.ensures.dir c.in-EmptyState.ensures,
+      refl,
+    )

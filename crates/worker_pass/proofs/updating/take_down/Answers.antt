@@ -9,7 +9,9 @@ returns-in-At-clause-updated c =
     let f = c.args.board.now.frame in
     let v = c.args.pass.now.seen in
     let v' = c.lower_to_less.new.pass.seen in
-    let lowering = c.lower_to_less.ensures.lowering in
-    (lowering.0, subst (λ (t : Table). IsUpdated f v v' t c.args.row lowering.0) (sym c.lower_to_less.ensures.levels)
-    (updated_at f v c.load_for.new.pass.seen v' c.args.scratch.now.levels c.load_for.new.scratch.levels c.args.row lowering.0 c.load_for.ensures.loaded c.load_for.ensures.here
-    (subst IsNumber (sym (c.load_for.ensures.level ∙ c.in-At.is)) tt) (c.load_for.ensures.after (subst IsNumber (sym c.in-At.is) tt)) lowering.1))
+    let lowering = c.lower_to_less.ensures.lowering in (
+      lowering.0,
+      subst (λ (t : Table). IsUpdated f v v' t c.args.row lowering.0) (sym c.lower_to_less.ensures.levels)
+          (updated_at f v c.load_for.new.pass.seen v' c.args.scratch.now.levels c.load_for.new.scratch.levels c.args.row lowering.0 c.load_for.ensures.loaded c.load_for.ensures.here
+          (subst IsNumber (sym (c.load_for.ensures.level ∙ c.in-At.is)) tt) (c.load_for.ensures.after (subst IsNumber (sym c.in-At.is) tt)) lowering.1),
+    )
