@@ -8,6 +8,8 @@ mod joining;
 mod loading;
 mod scratch;
 mod sweeping;
+#[cfg(test)]
+mod tests;
 mod updating;
 mod working;
 
