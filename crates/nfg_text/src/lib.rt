@@ -1,10 +1,13 @@
 //! Gambit's strategic form games, from bytes to values.
 #![tactic(auto)]
 
+mod fault;
 mod nfg;
 mod numbers;
+pub mod outcomes;
 mod reading;
 mod tokens;
+pub mod wants;
 mod what;
 mod worked;
 

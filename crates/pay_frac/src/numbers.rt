@@ -187,7 +187,8 @@ pub fn read_number(token: &[u8]) -> Result<Frac, NumberFault>
 
 /// The whole number that decimal digits alone write, however many, or 10^36 where it is greater. Nothing else is one.
 pub fn read_capped(text: &[u8]) -> Option<u128>
-    ensures { result ≡ option_map (λ n. min n (10 ^ 36)) (whole_of text.now) }
+    ensures capped { result ≡ option_map (λ n. min n (10 ^ 36)) (whole_of text.now) }
+    ensures few { length text.now ≤ 36 → result ≡ whole_of text.now }
 {
     if text.is_empty() {
         return None;
