@@ -1,16 +1,16 @@
 -- Gambit's strategic form, version 1, of two players. A file of names or counts, payoffs or outcomes, part by part.
-use Rattle.std.specs.Prelude.{◌≡◌, ℕ, zero, suc, ◌*◌, ◌==◌, ◌||◌, nat_lt, if◌then◌else◌, List, [], ◌∷◌, length, map, slice_index_or, codes, Option, Some, None, Result, Ok, Err, pos}
+use Rattle.std.specs.Prelude.{ℕ, suc, ◌*◌, ◌==◌, ◌||◌, nat_lt, if◌then◌else◌, List, [], ◌∷◌, length, map, slice_index_or, codes, Option, Some, None, Result, Ok, Err, pos}
 use Rattle.std.specs.Str.{bytes_eq}
 use Rattle.pay_frac.specs.Ratio.{Ratio}
-use Rattle.token_text.specs.Tokens.{Token, Kind, open_brace, close_brace, quoted, word, unclosed, ended, Stream, next, rest, stream_of}
+use Rattle.token_text.specs.Tokens.{Token, open_brace, close_brace, quoted, word, Stream, next, rest, stream_of}
 use Rattle.nfg_text.specs.declared.nfg.Nfg.{Nfg}
 use Rattle.nfg_text.specs.declared.nfg.Strategies.{Strategies}
 use Rattle.nfg_text.specs.declared.nfg.Strategies.TheVariants.{Counts, Names}
 use Rattle.nfg_text.specs.declared.outcomes.Outcome.{Outcome}
 use Rattle.nfg_text.specs.declared.what.What.TheVariants.{Players, Strategies as StrategiesLimit, Digits}
 use Rattle.nfg_text.specs.declared.fault.NfgFault.{NfgFault}
-use Rattle.nfg_text.specs.declared.fault.NfgFault.TheVariants.{Bad, Limit, NoMemory}
-use Rattle.nfg_text.specs.Wanted.{◌>>=◌, bad, or_bad, open_at, close_at, end_at, quoted_at, exact_at, number_at, whole_in, limited, word_in}
+use Rattle.nfg_text.specs.declared.fault.NfgFault.TheVariants.{Limit}
+use Rattle.nfg_text.specs.Wanted.{◌>>=◌, bad, open_at, close_at, end_at, quoted_at, exact_at, number_at, whole_in, limited, word_in, many_at, times_at, behind, bad_past}
 
 -- `R` and `D` mean the same
 abbrev pub tag_as : Token → Option (List ℕ) → Result (List ℕ) NfgFault
@@ -54,7 +54,7 @@ players_at s = do
 -- a count of strategies, 1 to 16
 abbrev pub count_as : Token → Option (ℕ × ℕ) → Result ℕ NfgFault
 count_as t None = bad t
-count_as t (Some n) = if n.0 == 0 then bad t else limited StrategiesLimit 16 t n
+count_as t (Some n) = if n.0 == 0 then bad t else limited StrategiesLimit 16 t.at n
 
 unfoldable pub count_at : Stream → Result (ℕ × Stream) NfgFault
 count_at s = count_as (next s) (whole_in (next s).kind) >>= λ n. Ok (n, rest s)
@@ -74,12 +74,14 @@ full_at s = elim (next s).kind as (λ _. Result Stream NfgFault) [
   | _ ↦ bad (next s)
 ]
 
--- names up to the close brace, for which there is room
-unfoldable pub more_names_at : ℕ → Stream → Result (List (List ℕ) × Stream) NfgFault
-more_names_at zero s = full_at s >>= λ a. Ok ([], a)
-more_names_at (suc room) s = elim (next s).kind as (λ _. Result (List (List ℕ) × Stream) NfgFault) [
-  | close_brace ↦ Ok ([], rest s)
-  | quoted t ↦ more_names_at room (rest s) >>= λ more. Ok (t ∷ more.0, more.1)
+abbrev pub sixteen_past : Stream → Result (List (List ℕ) × Stream) NfgFault
+sixteen_past s = full_at s >>= λ a. Ok ([], a)
+
+-- a name, or the close brace
+unfoldable pub name_or_close_at : Stream → Result (Option (List ℕ) × Stream) NfgFault
+name_or_close_at s = elim (next s).kind as (λ _. Result (Option (List ℕ) × Stream) NfgFault) [
+  | close_brace ↦ Ok (None, rest s)
+  | quoted t ↦ Ok (Some t, rest s)
   | _ ↦ bad (next s)
 ]
 
@@ -88,8 +90,7 @@ unfoldable pub names_at : Stream → Result (List (List ℕ) × Stream) NfgFault
 names_at s = do
   a ← open_at s
   first ← quoted_at a
-  more ← more_names_at 15 first.1
-  Ok (first.0 ∷ more.0, more.1)
+  behind (first.0 ∷ []) (many_at name_or_close_at sixteen_past 15 first.1)
 
 unfoldable pub both_names_at : Stream → Result (Strategies × Stream) NfgFault
 both_names_at s = do
@@ -125,14 +126,6 @@ comment_at s = elim (next s).kind as (λ _. Option (List ℕ) × Stream) [
   | _ ↦ (None, s)
 ]
 
--- so many numbers
-unfoldable pub numbers_at : ℕ → Stream → Result (List Ratio × Stream) NfgFault
-numbers_at zero s = Ok ([], s)
-numbers_at (suc n) s = do
-  first ← number_at s
-  more ← numbers_at n first.1
-  Ok (first.0 ∷ more.0, more.1)
-
 -- a name and a number for each player
 unfoldable pub outcome_at : Stream → Result (Outcome × Stream) NfgFault
 outcome_at s = do
@@ -143,14 +136,17 @@ outcome_at s = do
   b ← close_at second.1
   Ok (record { first = first.0; second = second.0 }, b)
 
--- Outcomes up to the close brace. The first number is at least how many tokens are left.
-unfoldable pub outcomes_at : ℕ → Stream → Result (List Outcome × Stream) NfgFault
-outcomes_at zero s = bad (next s)
-outcomes_at (suc n) s = elim (next s).kind as (λ _. Result (List Outcome × Stream) NfgFault) [
-  | close_brace ↦ Ok ([], rest s)
-  | open_brace ↦ outcome_at s >>= λ first. outcomes_at n first.1 >>= λ more. Ok (first.0 ∷ more.0, more.1)
+-- an outcome, or the close brace
+unfoldable pub outcome_or_close_at : Stream → Result (Option Outcome × Stream) NfgFault
+outcome_or_close_at s = elim (next s).kind as (λ _. Result (Option Outcome × Stream) NfgFault) [
+  | close_brace ↦ Ok (None, rest s)
+  | open_brace ↦ outcome_at s >>= λ o. Ok (Some o.0, o.1)
   | _ ↦ bad (next s)
 ]
+
+-- outcomes up to the close brace, of which there are no more than tokens are left
+unfoldable pub outcomes_at : Stream → Result (List Outcome × Stream) NfgFault
+outcomes_at s = many_at outcome_or_close_at bad_past (suc (length s.tokens)) s
 
 abbrev pub nothing : Outcome
 nothing = record { first = record { num = pos 0; den = pos 1 }; second = record { num = pos 0; den = pos 1 } }
@@ -170,25 +166,25 @@ choice_as os t (Some n) =
 unfoldable pub choice_at : List Outcome → Stream → Result (Outcome × Stream) NfgFault
 choice_at os s = choice_as os (next s) (whole_in (next s).kind) >>= λ o. Ok (o, rest s)
 
+abbrev pub payoffs_of : List Outcome → List Ratio
+payoffs_of [] = []
+payoffs_of (o ∷ os) = o.first ∷ o.second ∷ payoffs_of os
+
 -- the payoffs of so many profiles by their outcomes
 unfoldable pub choices_at : List Outcome → ℕ → Stream → Result (List Ratio × Stream) NfgFault
-choices_at os zero s = Ok ([], s)
-choices_at os (suc n) s = do
-  first ← choice_at os s
-  more ← choices_at os n first.1
-  Ok (first.0.first ∷ first.0.second ∷ more.0, more.1)
+choices_at os n s = times_at (choice_at os) n s >>= λ chosen. Ok (payoffs_of chosen.0, chosen.1)
 
 unfoldable pub chosen_at : ℕ → Stream → Result (List Ratio × Stream) NfgFault
 chosen_at profiles s = do
   a ← open_at s
-  os ← outcomes_at (length a.tokens) a
+  os ← outcomes_at a
   choices_at os.0 profiles os.1
 
 -- outcomes and a number for each profile, or a number for each player and profile
 unfoldable pub body_at : ℕ → Stream → Result (List Ratio × Stream) NfgFault
 body_at profiles s = elim (next s).kind as (λ _. Result (List Ratio × Stream) NfgFault) [
   | open_brace ↦ chosen_at profiles s
-  | _ ↦ numbers_at (2 * profiles) s
+  | _ ↦ times_at number_at (2 * profiles) s
 ]
 
 unfoldable pub file_at : Stream → Result Nfg NfgFault

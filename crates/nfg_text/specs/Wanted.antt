@@ -1,12 +1,12 @@
 -- What a text has from the left on, part by part: a value and the tokens after it, or the first fault.
-use Rattle.std.specs.Prelude.{◌≡◌, ℕ, ◌==◌, nat_lt, Bool, true, false, if◌then◌else◌, List, [], ◌∷◌, length, Option, Some, None, Result, Ok, Err, pos}
+use Rattle.std.specs.Prelude.{◌≡◌, ℕ, zero, suc, ◌++◌, nat_lt, Bool, true, false, if◌then◌else◌, List, [], ◌∷◌, length, Option, Some, None, Result, Ok, Err, pos}
 use Rattle.std.specs.Option.{option_map}
 use Rattle.std.specs.Str.{bytes_eq}
 use Rattle.pay_frac.specs.Ratio.{Ratio}
 use Rattle.pay_frac.specs.declared.numbers.NumberFault.{NumberFault}
 use Rattle.pay_frac.specs.declared.numbers.NumberFault.TheVariants.{NotNumber, Beyond}
 use Rattle.pay_frac.specs.Number.{whole_of, number_of}
-use Rattle.token_text.specs.Tokens.{Token, Kind, open_brace, close_brace, quoted, word, unclosed, ended, Stream, next, rest}
+use Rattle.token_text.specs.Tokens.{Token, Kind, open_brace, close_brace, quoted, word, ended, Stream, next, rest}
 use Rattle.nfg_text.specs.declared.what.What.{What}
 use Rattle.nfg_text.specs.declared.what.What.TheVariants.{Digits}
 use Rattle.nfg_text.specs.declared.fault.NfgFault.{NfgFault}
@@ -108,8 +108,29 @@ abbrev pub whole_in : Kind → Option (ℕ × ℕ)
 whole_in k = whole_word (word_in k)
 
 -- what passes the limit is told, the digits first
-abbrev pub limited : What → ℕ → Token → ℕ × ℕ → Result ℕ NfgFault
-limited what most t n =
-    if nat_lt 36 n.1 then Err (Limit Digits (pos n.1) t.at)
-    else if nat_lt most n.0 then Err (Limit what (pos n.0) t.at)
+abbrev pub limited : What → ℕ → ℕ → ℕ × ℕ → Result ℕ NfgFault
+limited what most at n =
+    if nat_lt 36 n.1 then Err (Limit Digits (pos n.1) at)
+    else if nat_lt most n.0 then Err (Limit what (pos n.0) at)
     else Ok n.0
+
+-- Items one after another, up to where none follows. For each there is room, and behind the last stands what follows it.
+unfoldable pub many_at : {A : Type 0} → (Stream → Result (Option A × Stream) NfgFault) → (Stream → Result (List A × Stream) NfgFault) → ℕ → Stream → Result (List A × Stream) NfgFault
+many_at {A = A} item past zero s = past s
+many_at {A = A} item past (suc room) s = item s >>= λ x. elim x.0 as (λ _. Result (List A × Stream) NfgFault) [
+  | None ↦ Ok ([], x.1)
+  | Some a ↦ many_at item past room x.1 >>= λ more. Ok (a ∷ more.0, more.1)
+]
+
+-- so many items
+unfoldable pub times_at : {A : Type 0} → (Stream → Result (A × Stream) NfgFault) → ℕ → Stream → Result (List A × Stream) NfgFault
+times_at item zero s = Ok ([], s)
+times_at item (suc n) s = item s >>= λ x. times_at item n x.1 >>= λ more. Ok (x.0 ∷ more.0, more.1)
+
+-- what is read behind items that were read
+abbrev pub behind : {A : Type 0} → List A → Result (List A × Stream) NfgFault → Result (List A × Stream) NfgFault
+behind before has = has >>= λ more. Ok (before ++ more.0, more.1)
+
+-- no room is left and none is needed
+abbrev pub bad_past : {A : Type 0} → Stream → Result A NfgFault
+bad_past s = bad (next s)

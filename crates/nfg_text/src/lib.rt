@@ -2,6 +2,7 @@
 #![tactic(auto)]
 
 mod fault;
+pub mod gambit;
 mod nfg;
 mod numbers;
 pub mod outcomes;
@@ -17,5 +18,7 @@ pub use tokens::{Lexeme, LexemeKind, Lexer};
 pub use what::What;
 pub use worked::{plain_file, token_places};
 
+#[cfg(test)]
+mod gambit_tests;
 #[cfg(test)]
 mod tests;

@@ -1,7 +1,7 @@
 //! What the grammars of several formats want of the next token.
 
 ghost use Rattle.std.specs.Prelude.{◌≡◌, ◌≤◌, ◌^◌, ◌∷◌, ◌++◌, [], ℕ, min, MatchOption, IfOk, IfErr, OnOk, Some, None, length};
-ghost use Rattle.nfg_text.specs.Wanted.{Reads, Passes, open_at, close_at, end_at, quoted_at, exact_at, number_at, whole_in};
+ghost use Rattle.nfg_text.specs.Wanted.{Reads, Passes, Gives, limited as told, open_at, close_at, end_at, quoted_at, exact_at, number_at, whole_in};
 ghost use Rattle.nfg_text.specs.declared.fault.NfgFault.TheVariants.{NoMemory};
 ghost use Rattle.token_text.specs.Tokens.{unescaped};
 ghost use Rattle.token_text.specs.Lexer.{token_of};
@@ -12,6 +12,9 @@ use game_model::List;
 use pay_frac::{Frac, NumberFault, read_capped, read_number};
 use std::alloc::Global;
 use token_text::{Lexeme, LexemeKind, Lexer, Text};
+
+/// The most digits of a number.
+const MOST_DIGITS: u64 = 36;
 
 /// An open brace.
 #[tactic(auto, unfolding(crate::specs::Wanted::open_at))]
@@ -128,4 +131,28 @@ pub(crate) fn put<T: Drop>(list: &mut List<T>, item: T) -> Result<(), NfgFault>
 {
     token_text::put(list, item)?;
     Ok(())
+}
+
+/// A whole number that must pass no limit: a number with its digits as `whole` answers them.
+pub fn limited(what: What, most: u128, at: u64, number: (u128, u64)) -> Result<u128, NfgFault>
+    requires { number.0 ≤ 10 ^ 36 }
+    ensures value { (n : ℕ) → (number.1 ≤ 36 → number.0 ≡ n) → Gives result (told what most at (n, number.1)) }
+    ensures within { IfOk result (λ n. n ≤ most) }
+{
+    let (value, digits) = number;
+    if digits > MOST_DIGITS {
+        return Err(NfgFault::Limit {
+            what: What::Digits,
+            number: i128::from(digits),
+            at,
+        });
+    }
+    if value > most {
+        return Err(NfgFault::Limit {
+            what,
+            number: value as i128,
+            at,
+        });
+    }
+    Ok(value)
 }
