@@ -1,5 +1,6 @@
 use crate::What;
 use crate::gambit::{NfgFault, read_nfg};
+use crate::writing::write_nfg;
 use game_model::List;
 use pay_frac::Frac;
 use std::alloc::Global;
@@ -336,5 +337,48 @@ fn is_read(alloc: Global, row: &Row) -> bool {
 fn files_and_faults(rt: HostRuntime) {
     for (i, row) in ROWS.iter().enumerate() {
         assert!(rt; is_read(rt.alloc(), row), "row {i}");
+    }
+}
+
+/// Texts, and their games in canonical form.
+const WRITTEN: [(&[u8], &[u8]); 3] = [
+    (
+        b"NFG 1 R \"PD\" { \"1\" \"2\" } { 2 2 } 2 2 3 0 0 3 1 1",
+        b"NFG 1 R \"PD\" { \"1\" \"2\" } { 2 2 }\n2 2 3 0 0 3 1 1\n",
+    ),
+    (
+        b"NFG,1 D\"a\\\"b\"{\"\" \"2\"}{{\"C\"}{\"\\\"\" \"D\"}}\"note\"{{\"x\"-.5 02/4}}1 0",
+        b"NFG 1 R \"a\\\"b\" { \"\" \"2\" } { { \"C\" } { \"\\\"\" \"D\" } }\n\"note\"\n-1/2 1/2 0 0\n",
+    ),
+    (
+        b"NFG 1 R \"\" { \"1\" \"2\" } { 01 1 } 0.10 -7",
+        b"NFG 1 R \"\" { \"1\" \"2\" } { 1 1 }\n1/10 -7\n",
+    ),
+];
+
+fn is_text(text: &List<u8>, bytes: &[u8]) -> bool {
+    for i in 0..text.len() {
+        if bytes.get(i as usize) != Some(text.get(i)) {
+            return false;
+        }
+    }
+    text.len() as usize == bytes.len()
+}
+
+fn is_written(alloc: Global, file: &[u8], wanted: &[u8]) -> bool {
+    match read_nfg(alloc, file) {
+        Ok(game) => match write_nfg(alloc, &game) {
+            Ok(text) => is_text(&text, wanted),
+            Err(_) => false,
+        },
+        Err(_) => false,
+    }
+}
+
+#[test]
+fn canonical_texts(rt: HostRuntime) {
+    for (i, (file, text)) in WRITTEN.iter().enumerate() {
+        assert!(rt; is_written(rt.alloc(), file, text), "text {i}");
+        assert!(rt; is_written(rt.alloc(), text, text), "canonical text {i}");
     }
 }

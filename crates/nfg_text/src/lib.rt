@@ -11,6 +11,7 @@ mod tokens;
 pub mod wants;
 mod what;
 mod worked;
+pub mod writing;
 
 pub use nfg::{Nfg, NfgFault, Strategies, Text};
 pub use reading::read_nfg;
