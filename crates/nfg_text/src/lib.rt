@@ -17,7 +17,7 @@ pub use nfg::{Nfg, NfgFault, Strategies, Text};
 pub use reading::read_nfg;
 pub use tokens::{Lexeme, LexemeKind, Lexer};
 pub use what::What;
-pub use worked::{plain_file, token_places};
+pub use worked::{faults_of_files, plain_file, token_places};
 
 #[cfg(test)]
 mod gambit_tests;
