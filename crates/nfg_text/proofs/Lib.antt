@@ -1,5 +1,7 @@
 pub mod Lexing
+pub mod Loops
 pub mod Parts
+pub mod Shorter
 pub mod Spelled
 pub mod Steps
 pub mod Whole

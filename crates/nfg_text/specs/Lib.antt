@@ -1,3 +1,5 @@
+pub mod Canonical
+pub mod Grammar
 pub mod Lexer
 pub mod LexerInside
 pub mod PlainFile
@@ -5,3 +7,4 @@ pub mod Reading
 pub mod ReadingViews
 pub mod Tokens
 pub mod Worked
+pub mod Wanted

@@ -1,10 +1,13 @@
 //! Worked rows, which show that the definitions say what is meant.
 
-ghost use Rattle.std.specs.Prelude.{◌≡◌, [], ◌∷◌, ◌++◌, codes, map};
+ghost use Rattle.std.specs.Prelude.{◌≡◌, [], ◌∷◌, ◌++◌, codes, map, pos, Ok, Err};
 ghost use Rattle.nfg_text.specs.declared.nfg.Nfg.{Nfg};
 ghost use Rattle.nfg_text.specs.Tokens.{open_brace, close_brace, quoted, word, unclosed, tokens_of};
 ghost use Rattle.nfg_text.specs.PlainFile.{IsPlainFile};
 ghost use Rattle.nfg_text.specs.Worked.{prisoners_dilemma};
+ghost use Rattle.nfg_text.specs.Grammar.{nfg_of};
+ghost use Rattle.nfg_text.specs.declared.fault.NfgFault.TheVariants.{Bad, Limit};
+ghost use Rattle.nfg_text.specs.declared.what.What.TheVariants.{Digits, Players};
 
 /// A law: the tokens of two lines, `NFG,1 R{"a\"b,c"}x{` and `"\`, by their kinds and places.
 pub fn token_places()
@@ -18,4 +21,16 @@ pub fn plain_file()
     ensures whole { IsPlainFile (codes "NFG 1 R \"PD\" { \"1\" \"2\" } { 2 2 } 2 2 3 0 0 3 1 1") prisoners_dilemma }
     ensures cut { (n : Nfg) → IsPlainFile (codes "NFG 1 R \"PD\" { \"1\" \"2\" } { 2 2 } 2 2 3 0 0 3 1") n → ⊥ }
     ensures longer { (n : Nfg) → IsPlainFile (codes "NFG 1 R \"PD\" { \"1\" \"2\" } { 2 2 } 2 2 3 0 0 3 1 1 1") n → ⊥ }
+{}
+
+/// A law: the file of the prisoner's dilemma has its value, and the fault of its neighbours is the first, with
+/// its place and cause.
+pub fn faults_of_files()
+    ensures whole { nfg_of (codes "NFG 1 R \"PD\" { \"1\" \"2\" } { 2 2 } 2 2 3 0 0 3 1 1") ≡ Ok prisoners_dilemma }
+    ensures cut { nfg_of (codes "NFG 1 R \"PD\" { \"1\" \"2\" } { 2 2 } 2 2 3 0 0 3 1") ≡ Err (Bad 46) }
+    ensures longer { nfg_of (codes "NFG 1 R \"PD\" { \"1\" \"2\" } { 2 2 } 2 2 3 0 0 3 1 1 1") ≡ Err (Bad 49) }
+    ensures no_number { nfg_of (codes "NFG 1 R \"\" { \"1\" \"2\" } { 1 1 } 1/0 2") ≡ Err (Bad 31) }
+    ensures no_outcome { nfg_of (codes "NFG 1 R \"\" { \"1\" \"2\" } { 1 1 } { { \"x\" 5 5 } } 2") ≡ Err (Bad 47) }
+    ensures third { nfg_of (codes "NFG 1 R \"\" { \"1\" \"2\" \"3\" } { 1 1 } 0 0") ≡ Err (Limit Players (pos 3) 21) }
+    ensures digits { nfg_of (codes "NFG 1 R \"\" { \"1\" \"2\" } { 1 1 } 1111111111111111111111111111111111111 0") ≡ Err (Limit Digits (pos 37) 31) }
 {}

@@ -74,7 +74,7 @@ value_zero n (d ∷ ds) a e =
     let d0 : d ≡ 48 = omega (arith, r.0) in
     (n0, λ i h. elim i as (λ k. k < length (d ∷ ds) → get_or (d ∷ ds) k 0 ≡ 48) [ zero ↦ λ _. d0 | suc k ↦ λ l. r.1 k (omega arith) ] h)
 
-no_other : (ds : List ℕ) → ((i : ℕ) → i < length ds → get_or ds i 0 ≡ 48) → Any (λ c. c ≢ 48) ds → ⊥
+pub no_other : (ds : List ℕ) → ((i : ℕ) → i < length ds → get_or ds i 0 ≡ 48) → Any (λ c. c ≢ 48) ds → ⊥
 no_other ds z h = h.4 (sym h.3 ∙ get_or_default ds h.0 h.1 0 h.2 ∙ z h.0 h.2)
 
 pub value_positive : (ds : List ℕ) → AllDigits 10 ds → Any (λ c. c ≢ 48) ds → 0 < digits_value 10 ds

@@ -1,5 +1,7 @@
 pub mod Coprime
+pub mod Deciding
 pub mod Digits
+pub mod Exactly
 pub mod Forms
 pub mod Laws
 pub mod Multiple

@@ -60,7 +60,7 @@ pub abs_positive : (a : ℤ) → a ≢ pos 0 → 0 < unsigned_abs a
 abs_positive a n = omega (arith, ints)
 
 -- the greatest common divisor is not 0 where one of the numbers isn't
-divisor_positive : (a b g : ℕ) → 0 < b → IsGcd a b g → 0 < g
+pub divisor_positive : (a b g : ℕ) → 0 < b → IsGcd a b g → 0 < g
 divisor_positive a b g p h = pos_of_dvd_of_pos h.1 p
 
 pub lowest_quotient : (num den d : ℤ) → den ≢ pos 0 → unsigned_abs num < 2 ^ 127 → unsigned_abs den < 2 ^ 127

@@ -1,3 +1,4 @@
+pub mod Number
 pub mod Pair
 pub mod Ratio
 pub mod Reading

@@ -1,11 +1,12 @@
 //! The spelling of numbers.
 
+ghost use Rattle.pay_frac.specs.Number.{number_of, whole_of};
 ghost use Rattle.pay_frac.specs.Reading.{FormGives, ReadsAs};
 ghost use Rattle.pay_frac.specs.Ratio.{Equals, IsLowest};
 ghost use Rattle.pay_frac.specs.Spelling.{Form, IsForm, Spelling, Spells, SpellsWhole, decimal, digit_count, form_text, fraction, signed_num, signed_text, spelled_den, spelled_num, whole};
 ghost use Rattle.std.specs.Char.{digit_value};
-ghost use Rattle.std.specs.Prelude.{◌+◌, ◌<◌, ◌^◌, ◌↔◌, ◌≡◌, ◌≢◌, ◌≤◌, ◌⊎◌, ℕ, Any, Err, IfNone, IfSome, IsOkAnd, IsTrue, length, pos, slice_index, take};
-ghost use Rattle.std.specs.Str.Parse.{AllDigits, digits_value_after};
+ghost use Rattle.std.specs.Prelude.{◌+◌, ◌<◌, ◌^◌, ◌↔◌, ◌≡◌, ◌≢◌, ◌≤◌, ◌⊎◌, ℕ, Any, Err, IfNone, IfSome, IsOkAnd, IsTrue, length, min, option_map, pos, slice_index, take};
+ghost use Rattle.std.specs.Str.Parse.{AllDigits, digits_value, digits_value_after};
 
 use crate::fractions::Frac;
 use thiserror::Error;
@@ -160,9 +161,8 @@ fn signed(negative: bool, num: u128, den: u128) -> Frac
     Frac::of(if negative { -num } else { num }, den as i128)
 }
 
-/// The number that a token spells: a whole number, a decimal or a fraction, with `-` before it or nothing.
-/// A token without such a spelling is `NotNumber`. One of more than 36 digits is `Beyond`, leading zeros counted too.
-pub fn read_number(token: &[u8]) -> Result<Frac, NumberFault>
+/// The number that a token spells.
+fn spelled_number(token: &[u8]) -> Result<Frac, NumberFault>
     ensures not_number { (result ≡ Err NumberFault.NotNumber) ↔ ((s : Spelling) → Spells token.now s → ⊥) }
     ensures beyond { (s : Spelling) → Spells token.now s → 36 < digit_count token.now → result ≡ Err (NumberFault.Beyond (digit_count token.now)) }
     ensures value { (s : Spelling) → Spells token.now s → digit_count token.now ≤ 36 → IsOkAnd result (λ f. Equals f (spelled_num s) (spelled_den s) × IsLowest f) }
@@ -171,6 +171,47 @@ pub fn read_number(token: &[u8]) -> Result<Frac, NumberFault>
     let (negative, text) = split_sign(token);
     let (num, den) = read_unsigned(text)?;
     Ok(signed(negative, num, den))
+}
+
+/// The number that a token spells: a whole number, a decimal or a fraction, with `-` before it or nothing.
+/// A token without such a spelling is `NotNumber`. One of more than 36 digits is `Beyond`, leading zeros counted too.
+pub fn read_number(token: &[u8]) -> Result<Frac, NumberFault>
+    ensures not_number { (result ≡ Err NumberFault.NotNumber) ↔ ((s : Spelling) → Spells token.now s → ⊥) }
+    ensures beyond { (s : Spelling) → Spells token.now s → 36 < digit_count token.now → result ≡ Err (NumberFault.Beyond (digit_count token.now)) }
+    ensures value { (s : Spelling) → Spells token.now s → digit_count token.now ≤ 36 → IsOkAnd result (λ f. Equals f (spelled_num s) (spelled_den s) × IsLowest f) }
+    ensures spelled { ((s : Spelling) × Spells token.now s) ⊎ (result ≡ Err NumberFault.NotNumber) }
+    ensures exact { result ≡ number_of token.now }
+{
+    spelled_number(token)
+}
+
+/// The whole number that decimal digits alone write, however many, or 10^36 where it is greater. Nothing else is one.
+pub fn read_capped(text: &[u8]) -> Option<u128>
+    ensures capped { result ≡ option_map (λ n. min n (10 ^ 36)) (whole_of text.now) }
+    ensures few { length text.now ≤ 36 → result ≡ whole_of text.now }
+{
+    if text.is_empty() {
+        return None;
+    }
+    if are_digits(text) {
+        Some(capped_value(text))
+    } else {
+        None
+    }
+}
+
+/// The number that digits write, or 10^36 where it is greater.
+fn capped_value(digits: &[u8]) -> u128
+    requires { AllDigits 10 digits.now }
+    ensures { result ≡ min (digits_value 10 digits.now) (10 ^ 36) }
+{
+    const CAP: u128 = 1_000_000_000_000_000_000_000_000_000_000_000_000;
+    let mut value = 0;
+    for digit in digits {
+        let next = value * 10 + (*digit - b'0') as u128;
+        value = if next < CAP { next } else { CAP };
+    }
+    value
 }
 
 /// The whole number that 1 to 18 decimal digits write, leading zeros counted too; nothing else is one.

@@ -1,0 +1,17 @@
+//! Worked rows, which show that the definitions say what is meant.
+
+ghost use Rattle.std.specs.Prelude.{◌≡◌, [], ◌∷◌, ◌++◌, codes, pos, Ok, Err};
+ghost use Rattle.dyn_text.specs.Grammar.{dyn_of};
+ghost use Rattle.nfg_text.specs.declared.fault.NfgFault.TheVariants.{Bad, Limit};
+ghost use Rattle.nfg_text.specs.declared.what.What.TheVariants.{Digits, Whole};
+
+/// A law: a file of two states has its value, and the fault of its neighbours is the first, with its place and
+/// cause.
+pub fn faults_of_files()
+    ensures whole { dyn_of (codes "DYN 1 \"two\" { { \"good\" \"pd.nfg\" { 0 1 1 1 } } { \"bad\" \"nil.nfg\" { 1 } } }") ≡ Ok (record { title = codes "two"; states = record { name = codes "good"; file = codes "pd.nfg"; next = 0 ∷ 1 ∷ 1 ∷ 1 ∷ [] } ∷ record { name = codes "bad"; file = codes "nil.nfg"; next = 1 ∷ [] } ∷ [] }) }
+    ensures no_state { dyn_of (codes "DYN 1 \"x\" { }") ≡ Err (Bad 12) }
+    ensures open { dyn_of (codes "DYN 1 \"x\" { { \"a\" \"b\" { 0 } }") ≡ Err (Bad 29) }
+    ensures longer { dyn_of (codes "DYN 1 \"x\" { { \"a\" \"b\" { 0 } } } }") ≡ Err (Bad 32) }
+    ensures large { dyn_of (codes "DYN 1 \"x\" { { \"a\" \"b\" { 4294967296 } } }") ≡ Err (Limit Whole (pos 4294967296) 24) }
+    ensures sign { dyn_of (codes "DYN 1 \"x\" { { \"a\" \"b\" { 0 -1 } } }") ≡ Err (Bad 26) }
+{}

@@ -1,0 +1,3 @@
+pub mod Lexer
+pub mod LexerInside
+pub mod Tokens
