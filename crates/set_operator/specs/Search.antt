@@ -55,3 +55,12 @@ IsMost p t s k a most = (z : Fractions) → Admissible p t s a z → value p s a
 -- the least whole number that is not below a best's value
 abbrev pub IsCeilingOf : Problem → Best → ℤ → Type 0
 IsCeilingOf p best level = IsCeiling best.value (pos p.game.q *ℤ best.point.den) level
+
+-- no admissible value of the profile is above a best's
+abbrev pub HasNoneAbove : Problem → Levels → ℕ → ℕ → ℕ → Best → Type 0
+HasNoneAbove p t s k a best = (z : Fractions) → Admissible p t s a z → (value p s a k z *ℤ best.point.den) ≤ℤ (best.value *ℤ z.denominator)
+
+-- there is a best, and it reaches level x: it is above x - 1
+abbrev pub IsReached : Problem → ℤ → Option Best → Type 0
+IsReached p x None = ⊥
+IsReached p x (Some best) = ((x -ℤ pos 1) *ℤ (pos p.game.q *ℤ best.point.den)) <ℤ best.value

@@ -18,12 +18,14 @@ use crate::best::{Best, admits, best_of};
 use crate::boxes::{ProfileBox, known_states};
 use crate::lesser::Lesser;
 use crate::lines::{Asks, fill_asks};
+use crate::program::some_rows;
 use crate::reasons::explain;
 use crate::row::RowAnswer;
 use crate::search::{Row, answer_of, first_best, leader, level_of};
 use crate::sides::box_by;
 use game_model::Game;
 use level_table::{LevelTable, Problem, ReasonList, most_profiles};
+use lp_cert::Rows;
 use std::alloc::{AllocError, Global};
 use std::marker::Model;
 
@@ -122,14 +124,10 @@ impl Prepared {
             state: self.state,
             dir,
         };
-        let start = best_at(p, levels, row, &self.boxes, first);
-        lesser_of(
-            p,
-            levels,
-            row,
-            level,
-            leader(p, levels, row, &self.boxes, level, start),
-        )
+        let mut rows = some_rows();
+        let start = best_at(p, levels, row, &self.boxes, first, &mut rows);
+        let found = leader(p, levels, row, &self.boxes, level, start, &mut rows);
+        lesser_of(p, levels, row, level, found)
     }
 
     /// Whether some profile of the state admits a point.
@@ -197,6 +195,7 @@ fn best_at(
     row: Row,
     programs: &[Option<ProfileBox>],
     first: u32,
+    rows: &mut Rows,
 ) -> Option<Best>
     requires table { IsSmallTable p.now levels.now }
     requires dir { row.dir < direction_count p.now }
@@ -208,7 +207,7 @@ fn best_at(
         return None;
     }
     match &programs[first as usize] {
-        Some(program) => best_of(p, levels, program, row.dir),
+        Some(program) => best_of(p, levels, program, row.dir, rows),
         None => None,
     }
 }
@@ -252,8 +251,9 @@ fn some_admits(
     requires each { (a : ℕ) → a < length programs.now → IsBoxAt p.now (levels_in levels.now) state a (slice_index_or programs.now a None) }
     ensures { IsTrue result ↔ HasAdmissible p.now (levels_in levels.now) state }
 {
+    let mut rows = some_rows();
     for a in 0..programs.len() {
-        if admits_at(p, levels, &programs[a], state, a as u32) {
+        if admits_at(p, levels, &programs[a], state, a as u32, &mut rows) {
             return true;
         }
     }
@@ -267,6 +267,7 @@ fn admits_at(
     program: &Option<ProfileBox>,
     state: u32,
     a: u32,
+    rows: &mut Rows,
 ) -> bool
     requires table { IsSmallTable p.now levels.now }
     requires at { IsBoxAt p.now (levels_in levels.now) state a program.now }
@@ -274,7 +275,7 @@ fn admits_at(
     ensures none { (z : Fractions) → Admissible p.now (levels_in levels.now) state a z → IsTrue result }
 {
     match program {
-        Some(found) => admits(p, levels, found),
+        Some(found) => admits(p, levels, found, rows),
         None => false,
     }
 }

@@ -6,10 +6,6 @@ use Rattle.level_table.specs.Levels.{levels_in}
 use Rattle.set_operator.proofs.SearchLemmas.{leader_reaches, leaders, no_leader}
 use Rattle.set_operator.proofs.search.leader.Goals as goal
 
-pub returns-then-reaches-clause-some : goal.returns-then-reaches-clause-some
-returns-then-reaches-clause-some c =
-    leader_reaches c.args.p.now (levels_in c.args.levels.now) c.args.row.state c.args.row.dir c.loop-a.a c.args.level c.loop-a.best c.in-Some.found c.in-Some.is c.loop-a.invariant (subst (λ z. ((z -ℤ pos 1) *ℤ (pos c.args.p.now.game.q *ℤ c.in-Some.found.point.den)) <ℤ c.in-Some.found.value) (to_z-of_z w64 c.args.level c.ranges.level) (c.reaches.ensures.0 c.if-reaches.true))
-
 pub returns-clause-none : goal.returns-clause-none
 returns-clause-none c =
     no_leader c.args.p.now (levels_in c.args.levels.now) c.args.row.state c.args.row.dir c.loop-a.a c.loop-a.best (omega (arith, c.loop-a.auto.a-end, c.loop-a-test.false, c.requires.one_each)) c.loop-a.invariant
