@@ -1,5 +1,6 @@
 pub mod Fits
 pub mod Items
+pub mod LineLemmas
 pub mod Mosts
 pub mod Openings
 pub mod Points

@@ -1,5 +1,5 @@
 -- Bounds of values from the sides of the box and one level.
-use Rattle.std.proofs.Common.{◌≡◌, ℕ, zero, suc, ◌+◌, ◌-◌, ◌<◌, ◌≤◌, List, [], ◌∷◌, refl, ap, sym, ◌∙◌, arith}
+use Rattle.std.proofs.Common.{◌≡◌, ℕ, zero, suc, ◌+◌, ◌-◌, ◌<◌, ◌≤◌, List, [], ◌∷◌, refl, ap, sym, subst, ◌∙◌, arith}
 use Rattle.std.specs.Prelude.{ℤ, pos, ◌+ℤ◌, ◌-ℤ◌, ◌*ℤ◌, ◌≤ℤ◌, ◌<ℤ◌, neg_ℤ}
 use Rattle.std.proofs.lemmas.Int.{ints}
 use Rattle.exact_algebra.specs.Poly.{var, lit, neg, ◌⊕◌, ◌⊖◌, ◌⊗◌}
@@ -10,9 +10,10 @@ use Rattle.bound_laws.proofs.Directions.{dot-plus_axis}
 use Rattle.bound_laws.proofs.Sums.{sum_below-same, sum_below-plus, sum_below-times}
 use Rattle.game_model.specs.Game.{payoff_at}
 use Rattle.game_model.specs.SelfGeneration.{part, sum_below, dot}
-use Rattle.level_table.specs.declared.level.Level.TheVariants.{At}
+use Rattle.level_table.specs.declared.level.Level.{Level}
+use Rattle.level_table.specs.declared.level.Level.TheVariants.{At, Empty}
 use Rattle.level_table.specs.Problem.{Problem, IsProblem, direction_count, direction, discount_at, plus_axis}
-use Rattle.level_table.specs.Levels.{Levels}
+use Rattle.level_table.specs.Levels.{IsNumber, Levels}
 use Rattle.level_table.specs.Operator.{Admissible, Fractions, value}
 use Rattle.set_operator.specs.declared.boxes.ProfileBox.{ProfileBox}
 use Rattle.set_operator.specs.Boxes.{IsBoxOf, side_at, stage_at, stage_scale}
@@ -95,3 +96,24 @@ at_most_all p t b k least x g z ok box low within at spread adm =
     (all_parts z.denominator (stage_value p b k) (pos least) (dot p.game.players (direction p k) z.numerators) x (sum_below (spread_term p k least z.numerators) p.game.players) g (omega (arith, ints))
     (adm.half_planes k x within (ap (λ s. t s k) (sym box.next) ∙ at))
     (spread z.numerators z.denominator adm.positive (λ i w. within_sides p t b z i ok box adm w)))
+
+-- the same without a level: by the sides of the box alone
+no_level : (m x : ℤ) → m ≡ pos 0 → m *ℤ x ≡ pos 0 *ℤ pos 0
+no_level m x e = rw e (ring (x ∷ []) (lit (pos 0) ⊗ var 0) (lit (pos 0) ⊗ lit (pos 0)) refl)
+
+pub at_most_box : (p : Problem) (t : Levels) (b : ProfileBox) (k : ℕ) (g : ℤ) (z : Fractions) → IsProblem p → IsBoxOf p t b → k < direction_count p
+    → ((y : List ℤ) (den : ℤ) → pos 0 <ℤ den → ((i : ℕ) → i < p.game.players → IsWithin (side_at b i) (part y i) den) → sum_below (spread_term p k 0 y) p.game.players ≤ℤ (g *ℤ den))
+    → Admissible p t b.state b.profile z → value p b.state b.profile k z ≤ℤ ((pos 0 *ℤ pos 0 +ℤ stage_value p b k +ℤ g) *ℤ z.denominator)
+at_most_box p t b k g z ok box within spread adm =
+    let known : IsNumber (t b.next k) = subst (λ s. IsNumber (t s k)) (sym box.next) (box.known.next k within) in
+    let x : ℤ = level_of (t b.next k) in
+    at_most_along refl (ap (λ m. (m +ℤ stage_value p b k +ℤ g) *ℤ z.denominator) (no_level (pos 0) x refl))
+    (at_most_all p t b k 0 x g z ok box (λ i w. omega arith) within (number_at (t b.next k) known) spread adm)
+  where
+    level_of : Level → ℤ
+    level_of Empty = pos 0
+    level_of (At x) = x
+
+    number_at : (l : Level) → IsNumber l → l ≡ At (level_of l)
+    number_at Empty h = absurd h
+    number_at (At x) h = refl

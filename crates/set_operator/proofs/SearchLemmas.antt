@@ -1,6 +1,6 @@
 -- The first best profile, profile by profile.
-use Rattle.std.proofs.Common.{◌≡◌, inl, inr, ℕ, ◌+◌, ◌*◌, ◌^◌, ◌<◌, ◌≤◌, [], ◌∷◌, refl, sym, ◌∙◌, ap, subst, arith, rules, lit<, to_z, of_z, FitsSigned}
-use Rattle.std.specs.Prelude.{ℤ, pos, negsuc, IsTrue, ◌-ℤ◌, ◌*ℤ◌, ◌≤ℤ◌, ◌<ℤ◌, Option, Some, None, IfSome, IfNone}
+use Rattle.std.proofs.Common.{◌≡◌, inl, inr, ℕ, ◌+◌, ◌^◌, ◌<◌, ◌≤◌, [], ◌∷◌, refl, sym, ◌∙◌, ap, subst, arith, rules, lit<, to_z, of_z, FitsSigned}
+use Rattle.std.specs.Prelude.{Bool, true, false, not, ℤ, pos, negsuc, IsTrue, ◌-ℤ◌, ◌*ℤ◌, ◌≤ℤ◌, ◌<ℤ◌, Option, Some, None, IfSome, IfNone}
 use Rattle.std.specs.Int.{w64, w128}
 use Rattle.std.specs.Int.Signed.{lt_z}
 use Rattle.std.specs.Int.RustNames.{unsigned_abs}
@@ -25,7 +25,7 @@ use Rattle.set_operator.specs.declared.row.RowAnswer.TheVariants.{Level as Level
 use Rattle.set_operator.specs.Answers.{IsLevelAnswer, IsRowAnswer}
 use Rattle.set_operator.specs.Boxes.{IsBoxOf, point_of}
 use Rattle.set_operator.specs.Prepared.{IsBoxAt}
-use Rattle.set_operator.specs.Search.{IsBestOf, IsCeilingOf, IsEarliest, IsLargestBelow, IsLargestSoFar, IsLeader, IsMost, IsSmallBest}
+use Rattle.set_operator.specs.Search.{IsBestOf, HasNoneAbove, IsCeilingOf, IsEarliest, IsLargestBelow, IsLargestSoFar, IsLeader, IsMost, IsReached, IsSmallBest}
 
 weak : (a b : ℤ) → a <ℤ b → a ≤ℤ b
 weak a b h = omega (arith, ints)
@@ -93,12 +93,17 @@ so_far_keep p t s k n best h least = record {
   ];
 }
 
-pub so_far_most : (p : Problem) (t : Levels) (s k n : ℕ) (best : Best) (most : ℤ) → IsLargestBelow p t s k n best → IsMost p t s k n most → (most *ℤ best.point.den) ≤ℤ (best.value *ℤ pos 1) → IsLargestBelow p t s k (n + 1) best
-so_far_most p t s k n best most h bound low =
-    so_far_keep p t s k n best h (λ y adm.
-    let one : value p s n k y *ℤ pos 1 ≡ value p s n k y = omega (arith, ints) in
-    cross_trans (value p s n k y) y.denominator most (pos 1) best.value best.point.den adm.positive (omega (arith, ints)) h.best_of.small.positive
-    (rw one (bound y adm)) low)
+-- a bound that is at most a best
+pub none_above : (p : Problem) (t : Levels) (s k a : ℕ) (best : Best) (most : ℤ) → IsSmallBest best → IsMost p t s k a most → (most *ℤ best.point.den) ≤ℤ (best.value *ℤ pos 1) → HasNoneAbove p t s k a best
+none_above p t s k a best most small bound low y adm =
+    let one : value p s a k y *ℤ pos 1 ≡ value p s a k y = omega (arith, ints) in
+    cross_trans (value p s a k y) y.denominator most (pos 1) best.value best.point.den adm.positive (omega (arith, ints)) small.positive
+    (rw one (bound y adm)) low
+
+pub so_far_none_above : (p : Problem) (t : Levels) (s k n : ℕ) (found : ProfileBox) (best : Best) → IsLargestBelow p t s k n best → found.state ≡ s → found.profile ≡ n → HasNoneAbove p t found.state k found.profile best
+    → IsLargestBelow p t s k (n + 1) best
+so_far_none_above p t s k n found best h state profile none =
+    so_far_keep p t s k n best h (subst (λ a. HasNoneAbove p t s k a best) profile (subst (λ x. HasNoneAbove p t x k found.profile best) state none))
 
 pub so_far_lower : (p : Problem) (t : Levels) (s k n : ℕ) (best here : Best) → IsLargestBelow p t s k n best → IsBestOf p t s k n here → (here.value *ℤ best.point.den) ≤ℤ (best.value *ℤ here.point.den) → IsLargestBelow p t s k (n + 1) best
 so_far_lower p t s k n best here h new low =
@@ -255,3 +260,20 @@ no_leader p t s k n (Some best) e h = tt
 pub answer_is_empty : (p : Problem) (t : Levels) (s k : ℕ) (answer : RowAnswer) → answer ≡ EmptyState → IsRowAnswer p t s k answer → HasAdmissible p t s → ⊥
 answer_is_empty p t s k (LevelAnswer level profile point reached) e h some = absurd (cc)
 answer_is_empty p t s k EmptyState e h some = h some.profile some.vector some.known some.admissible
+
+-- a best that reaches the level leads
+pub reached_leads : (p : Problem) (t : Levels) (s k n : ℕ) (x : ℤ) (o : Option Best) → IsLargestSoFar p t s k n o → IsReached p x o → IfSome o (IsLeader p t s k x)
+reached_leads p t s k n x None h reach = absurd reach
+reached_leads p t s k n x (Some best) h reach = leader_reaches p t s k n x (Some best) best refl h reach
+
+pub reached_is_some : (p : Problem) (x : ℤ) (o : Option Best) (X : Type 0) → IsReached p x o → IfNone o X
+reached_is_some p x None X reach = absurd reach
+reached_is_some p x (Some best) X reach = tt
+
+pub small_so_far : (p : Problem) (t : Levels) (s k n : ℕ) (o : Option Best) → IsLargestSoFar p t s k n o → IfSome o IsSmallBest
+small_so_far p t s k n None h = tt
+small_so_far p t s k n (Some best) h = h.best_of.small
+
+pub not_both : (b : Bool) → IsTrue b → IsTrue (not b) → ⊥
+not_both true h k = absurd (cc)
+not_both false h k = absurd (cc)

@@ -15,7 +15,7 @@ use Rattle.set_operator.specs.Asked.{gain_unit}
 use Rattle.set_operator.proofs.Openings.{payoff_scaled}
 use Rattle.set_operator.proofs.Scales.{IsGap, fewer_times, scaled_difference}
 
-moves_of : (g : DynamicGame) (s a i b : ℕ) → IsGame g → s < states g → a < profile_count (counts g s) → i < g.players → b < slice_index (counts g s) i → Moves (counts g s) a i b
+pub moves_of : (g : DynamicGame) (s a i b : ℕ) → IsGame g → s < states g → a < profile_count (counts g s) → i < g.players → b < slice_index (counts g s) i → Moves (counts g s) a i b
 moves_of g s a i b ok state profile player strategy =
     let st : IsState g s = ok.each_state s state in
     moves (counts g s) a i b (each_positive g s ok state) profile (omega (arith, st.one_each, player)) strategy

@@ -1,5 +1,5 @@
 -- The largest value of a profile, and the first profile that has the largest of all.
-use Rattle.std.specs.Prelude.{◌≡◌, ◌⊎◌, ℕ, ◌^◌, ◌<◌, ◌≤◌, List, All, ℤ, pos, ◌-ℤ◌, ◌*ℤ◌, ◌≤ℤ◌, ◌<ℤ◌, Option, Some, None}
+use Rattle.std.specs.Prelude.{◌≡◌, ◌⊎◌, ℕ, ◌^◌, ◌<◌, ◌≤◌, All, ℤ, pos, ◌-ℤ◌, ◌*ℤ◌, ◌≤ℤ◌, ◌<ℤ◌, Option, Some, None}
 use Rattle.std.specs.Int.RustNames.{unsigned_abs}
 use Rattle.exact_algebra.specs.Quotients.{IsCeiling}
 use Rattle.game_model.specs.Game.{counts, profile_count}
@@ -7,7 +7,6 @@ use Rattle.level_table.specs.Problem.{Problem}
 use Rattle.level_table.specs.Levels.{Levels}
 use Rattle.level_table.specs.Operator.{Admissible, value}
 use Rattle.level_table.specs.Operator.{Fractions}
-use Rattle.lp_core.specs.declared.Point.{Point}
 use Rattle.set_operator.specs.Boxes.{point_of}
 use Rattle.set_operator.specs.declared.best.Best.{Best}
 
@@ -55,3 +54,12 @@ IsMost p t s k a most = (z : Fractions) → Admissible p t s a z → value p s a
 -- the least whole number that is not below a best's value
 abbrev pub IsCeilingOf : Problem → Best → ℤ → Type 0
 IsCeilingOf p best level = IsCeiling best.value (pos p.game.q *ℤ best.point.den) level
+
+-- no admissible value of the profile is above a best's
+abbrev pub HasNoneAbove : Problem → Levels → ℕ → ℕ → ℕ → Best → Type 0
+HasNoneAbove p t s k a best = (z : Fractions) → Admissible p t s a z → (value p s a k z *ℤ best.point.den) ≤ℤ (best.value *ℤ z.denominator)
+
+-- there is a best, and it reaches level x: it is above x - 1
+abbrev pub IsReached : Problem → ℤ → Option Best → Type 0
+IsReached p x None = ⊥
+IsReached p x (Some best) = ((x -ℤ pos 1) *ℤ (pos p.game.q *ℤ best.point.den)) <ℤ best.value

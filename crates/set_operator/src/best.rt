@@ -12,8 +12,11 @@ ghost use Rattle.set_operator.specs.Search.{IsBestOf, IsMost};
 
 use crate::boxes::ProfileBox;
 use crate::most::{least_numerator, most_from, spread_of};
-use crate::program::{items_of, number_at, objective_of, rows_of, stage_of, value_over};
+use crate::program::{
+    fill_rows, items_of, number_at, objective_of, some_rows, stage_of, value_over,
+};
 use level_table::{Items, LevelTable, Problem};
+use lp_cert::Rows;
 use lp_core::{LpAnswer, Point, solve};
 
 /// A profile with its largest value in a direction, over `q * point.den`, and a point that has it.
@@ -30,6 +33,7 @@ pub(crate) fn best_of(
     levels: &LevelTable,
     found: &ProfileBox,
     dir: u32,
+    rows: &mut Rows,
 ) -> Option<Best>
     requires table { IsSmallTable p.now levels.now }
     requires sides { IsBoxOf p.now (levels_in levels.now) found.now }
@@ -37,8 +41,8 @@ pub(crate) fn best_of(
     ensures some { IfSome result (IsBestOf p.now (levels_in levels.now) found.now.state dir found.now.profile) }
     ensures none { IfNone result ((z : Fractions) → Admissible p.now (levels_in levels.now) found.now.state found.now.profile z → ⊥) }
 {
-    let rows = rows_of(p, levels, found);
-    match solve(&rows, objective_of(p, dir)) {
+    fill_rows(p, levels, found, rows);
+    match solve(rows, objective_of(p, dir)) {
         LpAnswer::Best { point, value, .. } => Some(Best {
             value: value_over(point.den, stage_of(p, found, dir), value),
             profile: found.profile,
@@ -55,7 +59,8 @@ pub(crate) fn certificate_of(p: &Problem, levels: &LevelTable, found: &ProfileBo
     requires nothing { (z : Fractions) → Admissible p.now (levels_in levels.now) found.now.state found.now.profile z → ⊥ }
     ensures { IsProgramCertificate p.now (levels_in levels.now) found.now.state found.now.profile result }
 {
-    let rows = rows_of(p, levels, found);
+    let mut rows = some_rows();
+    fill_rows(p, levels, found, &mut rows);
     match solve(&rows, [0; 3]) {
         LpAnswer::Best { .. } => unreachable!(),
         LpAnswer::Infeasible { farkas } => items_of(p, levels, found, &farkas.items),
@@ -63,14 +68,14 @@ pub(crate) fn certificate_of(p: &Problem, levels: &LevelTable, found: &ProfileBo
 }
 
 /// Whether the profile admits a point.
-pub(crate) fn admits(p: &Problem, levels: &LevelTable, found: &ProfileBox) -> bool
+pub(crate) fn admits(p: &Problem, levels: &LevelTable, found: &ProfileBox, rows: &mut Rows) -> bool
     requires table { IsSmallTable p.now levels.now }
     requires sides { IsBoxOf p.now (levels_in levels.now) found.now }
     ensures some { IsTrue result → (z : Fractions) × Admissible p.now (levels_in levels.now) found.now.state found.now.profile z }
     ensures none { (z : Fractions) → Admissible p.now (levels_in levels.now) found.now.state found.now.profile z → IsTrue result }
 {
-    let rows = rows_of(p, levels, found);
-    matches!(solve(&rows, [0; 3]), LpAnswer::Best { .. })
+    fill_rows(p, levels, found, rows);
+    matches!(solve(rows, [0; 3]), LpAnswer::Best { .. })
 }
 
 /// A number over q that no admissible value of the profile in direction `dir` is above, found without a program.
@@ -86,4 +91,17 @@ pub(crate) fn most_value(p: &Problem, levels: &LevelTable, found: &ProfileBox, d
     let level = number_at(levels, found.next, dir);
     let stage = stage_of(p, found, dir);
     most_from(least, level, stage, spread_of(p, found, dir, least))
+}
+
+/// Another number over q that no admissible value of the profile in direction `dir` is above, from the sides of its
+/// box alone.
+pub(crate) fn most_in_box(p: &Problem, levels: &LevelTable, found: &ProfileBox, dir: u32) -> i128
+    requires sides { IsBoxOf p.now (levels_in levels.now) found.now }
+    requires dir { dir < direction_count p.now }
+    ensures most { IsMost p.now (levels_in levels.now) found.now.state dir found.now.profile result }
+    ensures small { unsigned_abs result ≤ 2 ^ 80 }
+{
+    p.rules();
+    let stage = stage_of(p, found, dir);
+    most_from(0, 0, stage, spread_of(p, found, dir, 0))
 }

@@ -62,7 +62,7 @@ pub(crate) fn known_states(p: &Problem, levels: &LevelTable) -> [bool; 64]
 }
 
 /// The number of a level that isn't Empty.
-fn finite(p: &Problem, levels: &LevelTable, state: u32, dir: u32) -> i64
+pub(crate) fn finite(p: &Problem, levels: &LevelTable, state: u32, dir: u32) -> i64
     requires table { IsSmallTable p.now levels.now }
     requires state { state < states p.now.game }
     requires dir { dir < direction_count p.now }
@@ -77,7 +77,7 @@ fn finite(p: &Problem, levels: &LevelTable, state: u32, dir: u32) -> i64
 }
 
 /// How far two profiles are apart that differ by one in the strategy of player `i`.
-fn stride_of(game: &Game, s: u32, i: u32) -> u32
+pub(crate) fn stride_of(game: &Game, s: u32, i: u32) -> u32
     requires game { IsGame game.now }
     requires state { s < states game.now }
     requires player { i < game.now.players }
@@ -109,7 +109,7 @@ fn base_of(p: &Problem) -> i64
 }
 
 /// What a payoff of player `i` counts in a gain, in units of `1/E` of what follows, but for the factor `q - p_i`.
-fn unit_of(p: &Problem, i: u32) -> i64
+pub(crate) fn unit_of(p: &Problem, i: u32) -> i64
     requires player { i < p.now.game.players }
     ensures value { result ≡ pos (gain_unit p.now i) }
     ensures small { gain_unit p.now i ≤ 2 ^ 60 }
@@ -119,7 +119,7 @@ fn unit_of(p: &Problem, i: u32) -> i64
 }
 
 /// The denominator of the discount factors less the numerator of player `i`.
-fn weight_of(p: &Problem, i: u32) -> i64
+pub(crate) fn weight_of(p: &Problem, i: u32) -> i64
     requires player { i < p.now.game.players }
     ensures value { result ≡ pos (p.now.game.q - discount_at p.now i) }
     ensures small { unsigned_abs result ≤ 2 ^ 10 }
@@ -129,7 +129,7 @@ fn weight_of(p: &Problem, i: u32) -> i64
 }
 
 /// What player `i`'s payoff counts in a value over q.
-fn stage_of(p: &Problem, state: u32, profile: u32, i: u32) -> i64
+pub(crate) fn stage_of(p: &Problem, state: u32, profile: u32, i: u32) -> i64
     requires opening { HasSmallOpening p.now }
     requires state { state < states p.now.game }
     requires profile { profile < profile_count (counts p.now.game state) }
@@ -246,7 +246,7 @@ fn side_of(
     Some(side)
 }
 
-const NO_SIDE: Side = Side {
+pub(crate) const NO_SIDE: Side = Side {
     upper: 0,
     lower: 0,
     by: None,

@@ -5,12 +5,14 @@
 mod best;
 mod boxes;
 mod lesser;
+mod lines;
 mod most;
 mod prepared;
 mod program;
 mod reasons;
 mod row;
 mod search;
+mod sides;
 
 pub use lesser::Lesser;
 pub use prepared::{Prepared, stays_prepared};

@@ -1,6 +1,6 @@
 //! A state made ready under the present levels, once for all directions.
 
-ghost use Rattle.std.specs.Prelude.{◌≡◌, ℕ, ◌+◌, ◌<◌, ◌≤◌, ◌^◌, ◌↔◌, [], length, slice_index_or, vec_capacity, None, IsTrue, IfOk, IfSome, IfNone};
+ghost use Rattle.std.specs.Prelude.{◌≡◌, ℕ, ◌+◌, ◌*◌, ◌<◌, ◌≤◌, ◌^◌, ◌↔◌, [], length, slice_index_or, vec_capacity, None, IsTrue, IfOk, IfSome, IfNone};
 ghost use Rattle.game_model.specs.Game.{states, counts, profile_count};
 ghost use Rattle.level_table.specs.Levels.{Levels, levels_in};
 ghost use Rattle.level_table.specs.Notes.{HasRoomFor};
@@ -10,18 +10,22 @@ ghost use Rattle.level_table.specs.Problem.{IsProblem, direction_count};
 ghost use Rattle.level_table.specs.Reasons.{AreReasonsOver};
 ghost use Rattle.level_table.specs.Tables.{HasSmallOpening, IsSmallTable};
 ghost use Rattle.set_operator.specs.Answers.{IsRowAnswer};
-ghost use Rattle.set_operator.specs.Boxes.{AreFlags};
+ghost use Rattle.set_operator.specs.Lines.{AreAll};
 ghost use Rattle.set_operator.specs.Prepared.{IsBoxAt, IsLesser, IsPrepared, KeepsAxes, PreparedState};
 ghost use Rattle.set_operator.specs.Search.{IsLargestSoFar, IsLeader};
 
 use crate::best::{Best, admits, best_of};
-use crate::boxes::{ProfileBox, box_of, known_states};
+use crate::boxes::{ProfileBox, known_states};
 use crate::lesser::Lesser;
+use crate::lines::{Asks, fill_asks};
+use crate::program::some_rows;
 use crate::reasons::explain;
 use crate::row::RowAnswer;
 use crate::search::{Row, answer_of, first_best, leader, level_of};
+use crate::sides::box_by;
 use game_model::Game;
 use level_table::{LevelTable, Problem, ReasonList, most_profiles};
+use lp_cert::Rows;
 use std::alloc::{AllocError, Global};
 use std::marker::Model;
 
@@ -31,19 +35,20 @@ use std::marker::Model;
 pub struct Prepared {
     state: u32,
     flags: [bool; 64],
+    asks: Vec<Option<Asks>>,
     boxes: Vec<Option<ProfileBox>>,
     room: u32,
 }
 
 impl Model for Prepared {
-    ghost use Rattle.std.specs.Prelude.{◌≤◌, vec_len, vec_capacity};
+    ghost use Rattle.std.specs.Prelude.{◌*◌, ◌≤◌, vec_len, vec_capacity};
     ghost use Rattle.set_operator.specs.Prepared.{PreparedState};
 
     ghost Value = { PreparedState };
 
     ghost view = { λ a. record { state = a.state; flags = a.flags; boxes = a.boxes.items; room = a.room } };
 
-    ghost invariant = { λ a. a.room ≤ vec_capacity a.boxes };
+    ghost invariant = { λ a. (a.room ≤ vec_capacity a.boxes) × (3 * a.room ≤ vec_capacity a.asks) };
 }
 
 impl Prepared {
@@ -55,6 +60,7 @@ impl Prepared {
         Ok(Prepared {
             state: 0,
             flags: [false; 64],
+            asks: Vec::with_capacity(alloc, 3 * room as usize)?,
             boxes: Vec::with_capacity(alloc, room as usize)?,
             room,
         })
@@ -70,10 +76,13 @@ impl Prepared {
         ensures state { self.new.state ≡ state }
         ensures room { self.new.room ≡ self.old.room }
     {
+        p.rules();
         self.state = state;
         self.flags = known_states(p, levels);
+        self.asks.clear();
+        fill_asks(p, levels, &self.flags, state, &mut self.asks);
         self.boxes.clear();
-        fill(p, levels, &self.flags, state, &mut self.boxes);
+        fill(p, levels, state, &self.asks, &mut self.boxes);
     }
 
     /// What the operator says of direction `dir` of the state.
@@ -115,14 +124,10 @@ impl Prepared {
             state: self.state,
             dir,
         };
-        let start = best_at(p, levels, row, &self.boxes, first);
-        lesser_of(
-            p,
-            levels,
-            row,
-            level,
-            leader(p, levels, row, &self.boxes, level, start),
-        )
+        let mut rows = some_rows();
+        let start = best_at(p, levels, row, &self.boxes, first, &mut rows);
+        let found = leader(p, levels, row, &self.boxes, level, start, &mut rows);
+        lesser_of(p, levels, row, level, found)
     }
 
     /// Whether some profile of the state admits a point.
@@ -160,14 +165,15 @@ pub fn stays_prepared()
 fn fill(
     p: &Problem,
     levels: &LevelTable,
-    known: &[bool; 64],
     state: u32,
+    asks: &[Option<Asks>],
     boxes: &mut Vec<Option<ProfileBox>>,
 )
     requires table { IsSmallTable p.now levels.now }
     requires opening { HasSmallOpening p.now }
-    requires known { AreFlags p.now (levels_in levels.now) known.now }
     requires state { state < states p.now.game }
+    requires asks { AreAll p.now (levels_in levels.now) state asks.now }
+    requires all { length asks.now ≡ p.now.game.players * profile_count (counts p.now.game state) }
     requires none { boxes.old.items ≡ [] }
     requires room { profile_count (counts p.now.game state) ≤ vec_capacity boxes.old }
     ensures one_each { length boxes.new.items ≡ profile_count (counts p.now.game state) }
@@ -175,7 +181,7 @@ fn fill(
     ensures room { vec_capacity boxes.old ≤ vec_capacity boxes.new }
 {
     for a in 0..p.game().profiles(state) {
-        match boxes.push(box_of(p, levels, known, state, a)) {
+        match boxes.push(box_by(p, levels, state, a, asks)) {
             Ok(()) => {}
             Err(_) => unreachable!(),
         }
@@ -189,6 +195,7 @@ fn best_at(
     row: Row,
     programs: &[Option<ProfileBox>],
     first: u32,
+    rows: &mut Rows,
 ) -> Option<Best>
     requires table { IsSmallTable p.now levels.now }
     requires dir { row.dir < direction_count p.now }
@@ -200,7 +207,7 @@ fn best_at(
         return None;
     }
     match &programs[first as usize] {
-        Some(program) => best_of(p, levels, program, row.dir),
+        Some(program) => best_of(p, levels, program, row.dir, rows),
         None => None,
     }
 }
@@ -244,8 +251,9 @@ fn some_admits(
     requires each { (a : ℕ) → a < length programs.now → IsBoxAt p.now (levels_in levels.now) state a (slice_index_or programs.now a None) }
     ensures { IsTrue result ↔ HasAdmissible p.now (levels_in levels.now) state }
 {
+    let mut rows = some_rows();
     for a in 0..programs.len() {
-        if admits_at(p, levels, &programs[a], state, a as u32) {
+        if admits_at(p, levels, &programs[a], state, a as u32, &mut rows) {
             return true;
         }
     }
@@ -259,6 +267,7 @@ fn admits_at(
     program: &Option<ProfileBox>,
     state: u32,
     a: u32,
+    rows: &mut Rows,
 ) -> bool
     requires table { IsSmallTable p.now levels.now }
     requires at { IsBoxAt p.now (levels_in levels.now) state a program.now }
@@ -266,7 +275,7 @@ fn admits_at(
     ensures none { (z : Fractions) → Admissible p.now (levels_in levels.now) state a z → IsTrue result }
 {
     match program {
-        Some(found) => admits(p, levels, found),
+        Some(found) => admits(p, levels, found, rows),
         None => false,
     }
 }

@@ -44,11 +44,11 @@ fn lower_side(found: &ProfileBox, i: usize) -> i128
     found.sides[i].lower as i128
 }
 
-/// The rows of the axes.
-fn boxed(p: &Problem, found: &ProfileBox) -> Rows
+/// The rows of the axes, in place of those that were there.
+fn boxed(p: &Problem, found: &ProfileBox, rows: &mut Rows)
     requires upper { (i : ℕ) → i < p.now.game.players → unsigned_abs (side_at found.now i).upper ≤ 2 ^ 64 }
     requires lower { (i : ℕ) → i < p.now.game.players → unsigned_abs (side_at found.now i).lower ≤ 2 ^ 64 }
-    ensures { (t : Levels) → IsProgramTo p.now t found.now (2 * p.now.game.players) result }
+    ensures { (t : Levels) → IsProgramTo p.now t found.now (2 * p.now.game.players) rows.new }
 {
     p.rules();
     let upper = [
@@ -62,20 +62,19 @@ fn boxed(p: &Problem, found: &ProfileBox) -> Rows
         lower_side(found, 2),
     ];
     let players = p.players() as usize;
-    let rows = Rows::boxed(&upper[..players], &lower[..players]);
+    rows.reset(&upper[..players], &lower[..players]);
     let _dimension = rows.dimension();
-    rows
 }
 
-/// The rows of the program: one for each direction, in order.
-pub(crate) fn rows_of(p: &Problem, levels: &LevelTable, found: &ProfileBox) -> Rows
+/// The rows of the program, one for each direction, in order, in place of those that were there.
+pub(crate) fn fill_rows(p: &Problem, levels: &LevelTable, found: &ProfileBox, rows: &mut Rows)
     requires table { IsSmallTable p.now levels.now }
     requires sides { IsBoxOf p.now (levels_in levels.now) found.now }
-    ensures rows { IsProgramOf p.now (levels_in levels.now) found.now result }
+    ensures rows { IsProgramOf p.now (levels_in levels.now) found.now rows.new }
     ensures problem { IsProblem p.now }
 {
     p.rules();
-    let mut rows = boxed(p, found);
+    boxed(p, found, rows);
     for dir in 2 * p.players()..p.directions() {
         let h = number_at(levels, found.next, dir) as i128;
         rows.add(Row {
@@ -84,7 +83,11 @@ pub(crate) fn rows_of(p: &Problem, levels: &LevelTable, found: &ProfileBox) -> R
         });
         let _dimension = rows.dimension();
     }
-    rows
+}
+
+/// Room for the rows of a program.
+pub(crate) fn some_rows() -> Rows {
+    Rows::boxed(&[0], &[0])
 }
 
 /// What a unit of player `i`'s part counts in direction `dir`, over q.

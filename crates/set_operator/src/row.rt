@@ -11,8 +11,9 @@ ghost use Rattle.set_operator.specs.Search.{IsEarliest, IsLargestSoFar};
 
 use crate::best::Best;
 use crate::boxes::{box_of, known_states};
+use crate::program::some_rows;
 use crate::reasons::explain;
-use crate::search::{Row, answer_of, with_profile};
+use crate::search::{Row, answer_of, try_profile};
 use direction_set::Directions;
 use game_model::{Game, List};
 use level_table::{LevelTable, Problem, ReasonList};
@@ -101,9 +102,10 @@ fn best_in_row(p: &Problem, levels: &LevelTable, known: &[bool; 64], row: Row) -
     ensures earliest { IsEarliest p.now (levels_in levels.now) row.state row.dir result }
 {
     let mut best = None;
+    let mut rows = some_rows();
     for a in 0..p.game().profiles(row.state) {
         let program = box_of(p, levels, known, row.state, a);
-        best = with_profile(p, levels, row, a, &program, best);
+        try_profile(p, levels, row, a, &program, &mut best, &mut rows);
     }
     best
 }

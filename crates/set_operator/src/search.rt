@@ -9,12 +9,14 @@ ghost use Rattle.level_table.specs.Tables.{HasSmallOpening, IsSmallTable};
 ghost use Rattle.set_operator.specs.Answers.{IsRowAnswer};
 ghost use Rattle.set_operator.specs.Boxes.{IsBoxOf};
 ghost use Rattle.set_operator.specs.Prepared.{IsBoxAt};
-ghost use Rattle.set_operator.specs.Search.{IsBestOf, IsCeilingOf, IsEarliest, IsLargestBelow, IsLargestSoFar, IsLeader, IsSmallBest};
+ghost use Rattle.set_operator.specs.Search.{IsBestOf, IsCeilingOf, IsEarliest, IsLargestBelow, IsLargestSoFar, IsLeader, IsReached, IsSmallBest, HasNoneAbove};
 
-use crate::best::{Best, best_of, most_value};
+use crate::best::{Best, best_of, most_in_box, most_value};
 use crate::boxes::ProfileBox;
+use crate::program::some_rows;
 use crate::row::RowAnswer;
 use level_table::{LevelTable, Problem};
+use lp_cert::Rows;
 use pay_frac::{Frac, ceil_div};
 
 /// A direction of a state.
@@ -35,14 +37,51 @@ pub(crate) fn is_above(value: i128, den: i128, best: &Best) -> bool
     best.value * den < value * best.point.den
 }
 
+/// Whether the bounds of a profile's values that need no program let one of them be greater than a best.
+fn can_win(p: &Problem, levels: &LevelTable, program: &ProfileBox, dir: u32, best: &Best) -> bool
+    requires table { IsSmallTable p.now levels.now }
+    requires of_profile { IsBoxOf p.now (levels_in levels.now) program.now }
+    requires dir { dir < direction_count p.now }
+    requires best { IsSmallBest best.now }
+    ensures { (IsTrue result → ⊥) → HasNoneAbove p.now (levels_in levels.now) program.now.state dir program.now.profile best.now }
+{
+    is_above(most_value(p, levels, program, dir), 1, best)
+        && is_above(most_in_box(p, levels, program, dir), 1, best)
+}
+
+/// Whether a profile is passed over: it has no box, or can't win.
+fn is_passed_over(
+    p: &Problem,
+    levels: &LevelTable,
+    row: Row,
+    a: u32,
+    program: &Option<ProfileBox>,
+    best: &Option<Best>,
+) -> bool
+    requires table { IsSmallTable p.now levels.now }
+    requires at { IsBoxAt p.now (levels_in levels.now) row.state a program.now }
+    requires dir { row.dir < direction_count p.now }
+    requires before { IsLargestSoFar p.now (levels_in levels.now) row.state row.dir a best.now }
+    ensures { IsTrue result → IsLargestSoFar p.now (levels_in levels.now) row.state row.dir (a + 1) best.now }
+{
+    match program {
+        None => true,
+        Some(found) => match best {
+            None => false,
+            Some(before) => !can_win(p, levels, found, row.dir, before),
+        },
+    }
+}
+
 /// The largest of the profiles up to that of the box, from that of those before it: the earlier one where both are
-/// as large. A profile that can't win is passed over.
-pub(crate) fn improved(
+/// as large.
+fn improved(
     p: &Problem,
     levels: &LevelTable,
     program: &ProfileBox,
     dir: u32,
     best: Best,
+    rows: &mut Rows,
 ) -> Best
     requires table { IsSmallTable p.now levels.now }
     requires of_profile { IsBoxOf p.now (levels_in levels.now) program.now }
@@ -51,10 +90,7 @@ pub(crate) fn improved(
     ensures largest { IsLargestBelow p.now (levels_in levels.now) program.now.state dir (program.now.profile + 1) result }
     ensures earliest { IsEarliest p.now (levels_in levels.now) program.now.state dir (Some best) → IsEarliest p.now (levels_in levels.now) program.now.state dir (Some result) }
 {
-    if !is_above(most_value(p, levels, program, dir), 1, &best) {
-        return best;
-    }
-    match best_of(p, levels, program, dir) {
+    match best_of(p, levels, program, dir, rows) {
         Some(here) => {
             if is_above(here.value, here.point.den, &best) {
                 here
@@ -67,13 +103,14 @@ pub(crate) fn improved(
 }
 
 /// The largest of the profiles up to `a`, from that of those before it: the earlier one where both are as large.
-pub(crate) fn with_profile(
+fn with_profile(
     p: &Problem,
     levels: &LevelTable,
     row: Row,
     a: u32,
     program: &Option<ProfileBox>,
     before: Option<Best>,
+    rows: &mut Rows,
 ) -> Option<Best>
     requires table { IsSmallTable p.now levels.now }
     requires at { IsBoxAt p.now (levels_in levels.now) row.state a program.now }
@@ -85,10 +122,34 @@ pub(crate) fn with_profile(
     match program {
         None => before,
         Some(found) => match before {
-            None => best_of(p, levels, found, row.dir),
-            Some(best) => Some(improved(p, levels, found, row.dir, best)),
+            None => best_of(p, levels, found, row.dir, rows),
+            Some(best) => Some(improved(p, levels, found, row.dir, best, rows)),
         },
     }
+}
+
+/// Takes profile `a` into account as well, and says whether it was looked at. One that can't win is passed over.
+pub(crate) fn try_profile(
+    p: &Problem,
+    levels: &LevelTable,
+    row: Row,
+    a: u32,
+    program: &Option<ProfileBox>,
+    best: &mut Option<Best>,
+    rows: &mut Rows,
+) -> bool
+    requires table { IsSmallTable p.now levels.now }
+    requires at { IsBoxAt p.now (levels_in levels.now) row.state a program.now }
+    requires dir { row.dir < direction_count p.now }
+    requires before { IsLargestSoFar p.now (levels_in levels.now) row.state row.dir a best.old }
+    ensures largest { IsLargestSoFar p.now (levels_in levels.now) row.state row.dir (a + 1) best.new }
+    ensures earliest { IsEarliest p.now (levels_in levels.now) row.state row.dir best.old → IsEarliest p.now (levels_in levels.now) row.state row.dir best.new }
+{
+    if is_passed_over(p, levels, row, a, program, best) {
+        return false;
+    }
+    *best = with_profile(p, levels, row, a, program, *best, rows);
+    true
 }
 
 /// The denominator of a best's value: q times that of its point.
@@ -159,8 +220,9 @@ pub(crate) fn first_best(
     ensures earliest { IsEarliest p.now (levels_in levels.now) row.state row.dir result }
 {
     let mut best = None;
+    let mut rows = some_rows();
     for a in 0..programs.len() {
-        best = with_profile(p, levels, row, a as u32, &programs[a], best);
+        try_profile(p, levels, row, a as u32, &programs[a], &mut best, &mut rows);
     }
     best
 }
@@ -173,6 +235,17 @@ pub(crate) fn reaches(p: &Problem, level: i64, best: &Best) -> bool
     (i128::from(level) - 1) * value_unit(p, best) < best.value
 }
 
+/// Whether there is a best that reaches a level.
+fn is_reached(p: &Problem, level: i64, best: &Option<Best>) -> bool
+    requires { IfSome best.now IsSmallBest }
+    ensures { IsTrue result → IsReached p.now level best.now }
+{
+    match best {
+        Some(found) => reaches(p, level, found),
+        None => false,
+    }
+}
+
 /// A profile whose value is the largest of all, or reaches the level, and none where no profile admits anything. The
 /// search goes on from `before`, and ends at the first profile that reaches the level.
 pub(crate) fn leader(
@@ -182,6 +255,7 @@ pub(crate) fn leader(
     programs: &[Option<ProfileBox>],
     level: i64,
     before: Option<Best>,
+    rows: &mut Rows,
 ) -> Option<Best>
     requires table { IsSmallTable p.now levels.now }
     requires dir { row.dir < direction_count p.now }
@@ -193,13 +267,15 @@ pub(crate) fn leader(
     ensures none { IfNone result (IsLargestSoFar p.now (levels_in levels.now) row.state row.dir (profile_count (counts p.now.game row.state)) None) }
 {
     let mut best = before;
+    if is_reached(p, level, &best) {
+        return best;
+    }
     for a in 0..programs.len() {
-        if let Some(found) = best {
-            if reaches(p, level, &found) {
-                return best;
-            }
+        if try_profile(p, levels, row, a as u32, &programs[a], &mut best, rows)
+            && is_reached(p, level, &best)
+        {
+            return best;
         }
-        best = with_profile(p, levels, row, a as u32, &programs[a], best);
     }
     best
 }

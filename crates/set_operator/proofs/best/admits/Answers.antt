@@ -5,11 +5,11 @@ use Rattle.set_operator.proofs.best.admits.Goals as goal
 pub returns-in-Best-clause-some : goal.returns-in-Best-clause-some
 returns-in-Best-clause-some c = λ yes. (
   record { numerators = c.in-Best.point.num; denominator = c.in-Best.point.den },
-  admits_point c.args.p.now (levels_in c.args.levels.now) c.args.found.now c.rows_of-rows.result c.in-Best.point.num c.in-Best.point.den
-      c.rows_of-rows.ensures.problem c.requires.sides c.rows_of-rows.ensures.rows c.in-Best.ensures.best.meets,
+  admits_point c.args.p.now (levels_in c.args.levels.now) c.args.found.now c.fill_rows.new.rows c.in-Best.point.num c.in-Best.point.den
+      c.fill_rows.ensures.problem c.requires.sides c.fill_rows.ensures.rows c.in-Best.ensures.best.meets,
 )
 
 pub returns-in_default-clause-none : goal.returns-in_default-clause-none
 returns-in_default-clause-none c = λ z adm. absurd (
     c.in_default.ensures.infeasible.0 tt (vector_of z)
-    (meets_rows c.args.p.now (levels_in c.args.levels.now) c.args.found.now c.rows_of-rows.result z c.rows_of-rows.ensures.problem c.requires.sides c.rows_of-rows.ensures.rows adm))
+    (meets_rows c.args.p.now (levels_in c.args.levels.now) c.args.found.now c.fill_rows.new.rows z c.fill_rows.ensures.problem c.requires.sides c.fill_rows.ensures.rows adm))

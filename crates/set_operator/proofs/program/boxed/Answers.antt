@@ -17,8 +17,8 @@ first_ones a b d f n few p q r i within = get_or-take n (a ∷ b ∷ d ∷ []) i
 small_ones : (a b d : ℤ) (f : ℕ → ℤ) (n m : ℕ) → n ≤ 3 → a ≡ f 0 → b ≡ f 1 → d ≡ f 2 → ((i : ℕ) → i < n → unsigned_abs (f i) ≤ m) → (i : ℕ) → i < n → unsigned_abs (entry (a ∷ b ∷ d ∷ []) i) ≤ m
 small_ones a b d f n m few p q r small i within = subst (λ z. unsigned_abs z ≤ m) (sym (by_place a b d f p q r i (omega arith))) (small i within)
 
-pub boxed-rows-requires-clause-upper : goal.boxed-rows-requires-clause-upper
-boxed-rows-requires-clause-upper c =
+pub reset-requires-clause-upper : goal.reset-requires-clause-upper
+reset-requires-clause-upper c =
     let ok : IsProblem c.args.p.now = c.rules.ensures in
     let f1 : FitsSigned w128 c.upper_side.result = record { sfits = c.upper_side.type_inv } in
     let f2 : FitsSigned w128 c.upper_side-2.result = record { sfits = c.upper_side-2.type_inv } in
@@ -28,8 +28,8 @@ boxed-rows-requires-clause-upper c =
     (small_ones c.upper_side.result c.upper_side-2.result c.upper_side-3.result (λ i. (side_at c.args.found.now i).upper) c.players-players.result (2 ^ 64) few
     c.upper_side.ensures c.upper_side-2.ensures c.upper_side-3.ensures (λ i w. c.requires.upper i (omega (arith, c.players-players.ensures)))))
 
-pub boxed-rows-requires-clause-lower : goal.boxed-rows-requires-clause-lower
-boxed-rows-requires-clause-lower c =
+pub reset-requires-clause-lower : goal.reset-requires-clause-lower
+reset-requires-clause-lower c =
     let ok : IsProblem c.args.p.now = c.rules.ensures in
     let f1 : FitsSigned w128 c.lower_side.result = record { sfits = c.lower_side.type_inv } in
     let f2 : FitsSigned w128 c.lower_side-2.result = record { sfits = c.lower_side-2.type_inv } in
@@ -53,9 +53,9 @@ returns c =
     let few : c.players-players.result ≤ 3 = omega (arith, c.players-players.ensures, ok.directions.at_most_three_players) in
     let us = c.upper_side.result ∷ c.upper_side-2.result ∷ c.upper_side-3.result ∷ [] in
     let ls = c.lower_side.result ∷ c.lower_side-2.result ∷ c.lower_side-3.result ∷ [] in
-    let rows_are = simp to_z-of_z at c.boxed-rows.ensures.rows in
-    let dimension_is = simp to_z-of_z at c.boxed-rows.ensures.dimension in
-    λ t. box_program c.args.p.now t c.args.found.now (take n us) (take n ls) c.boxed-rows.result ok c.dimension-dimension.ensures.program
+    let rows_are = simp to_z-of_z at c.reset.ensures.rows in
+    let dimension_is = simp to_z-of_z at c.reset.ensures.dimension in
+    λ t. box_program c.args.p.now t c.args.found.now (take n us) (take n ls) c.reset.new.self ok c.dimension-dimension.ensures.program
     dimension_is rows_are (omega (arith, length-take n us)) (omega (arith, length-take n ls))
     (λ i w. first_ones c.upper_side.result c.upper_side-2.result c.upper_side-3.result (λ j. (side_at c.args.found.now j).upper) n few
     c.upper_side.ensures c.upper_side-2.ensures c.upper_side-3.ensures i (omega arith))

@@ -1,14 +1,7 @@
-use Rattle.std.proofs.Common.{arith, subst}
-use Rattle.std.specs.Prelude.{pos, ◌-ℤ◌, ◌*ℤ◌, ◌<ℤ◌}
-use Rattle.std.specs.Int.{w64}
-use Rattle.std.proofs.lemmas.Int.{to_z-of_z}
+use Rattle.std.proofs.Common.{arith}
 use Rattle.level_table.specs.Levels.{levels_in}
-use Rattle.set_operator.proofs.SearchLemmas.{leader_reaches, leaders, no_leader}
+use Rattle.set_operator.proofs.SearchLemmas.{leaders, no_leader}
 use Rattle.set_operator.proofs.search.leader.Goals as goal
-
-pub returns-then-reaches-clause-some : goal.returns-then-reaches-clause-some
-returns-then-reaches-clause-some c =
-    leader_reaches c.args.p.now (levels_in c.args.levels.now) c.args.row.state c.args.row.dir c.loop-a.a c.args.level c.loop-a.best c.in-Some.found c.in-Some.is c.loop-a.invariant (subst (λ z. ((z -ℤ pos 1) *ℤ (pos c.args.p.now.game.q *ℤ c.in-Some.found.point.den)) <ℤ c.in-Some.found.value) (to_z-of_z w64 c.args.level c.ranges.level) (c.reaches.ensures.0 c.if-reaches.true))
 
 pub returns-clause-none : goal.returns-clause-none
 returns-clause-none c =

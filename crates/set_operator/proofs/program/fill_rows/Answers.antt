@@ -8,10 +8,10 @@ use Rattle.lp_cert.specs.Program.{IsRow}
 use Rattle.set_operator.specs.Program.{IsProgramTo}
 use Rattle.set_operator.proofs.Fits.{fits64, fits128}
 use Rattle.set_operator.proofs.Programs.{program_more, direction_row, level_small}
-use Rattle.set_operator.proofs.program.rows_of.Goals as goal
+use Rattle.set_operator.proofs.program.fill_rows.Goals as goal
 
 pub loop-dir-init : goal.loop-dir-init
-loop-dir-init c = subst (λ n. IsProgramTo c.args.p.now (levels_in c.args.levels.now) c.args.found.now (2 * n) c.boxed-rows.result) (sym c.players-dir.ensures) (c.boxed-rows.ensures (levels_in c.args.levels.now))
+loop-dir-init c = subst (λ n. IsProgramTo c.args.p.now (levels_in c.args.levels.now) c.args.found.now (2 * n) c.boxed.new.rows) (sym c.players-dir.ensures) (c.boxed.ensures (levels_in c.args.levels.now))
 
 pub add-requires-clause-right : goal.add-requires-clause-right
 add-requires-clause-right c =
