@@ -1,0 +1,5 @@
+pub mod Deviations
+pub mod Products
+pub mod Profiles
+pub mod Sides
+pub mod Weights
