@@ -1,4 +1,5 @@
 pub mod Deviations
+pub mod Dilemma
 pub mod Products
 pub mod Profiles
 pub mod Sides

@@ -17,3 +17,6 @@ pub use entry::Entry;
 pub use fault::{CorrFault, Why};
 pub use limits::keeps_limits;
 pub use lottery::Lottery;
+
+#[cfg(test)]
+mod tests;
