@@ -1,7 +1,7 @@
 -- Profiles: their numbers, step by step, and the strategies that they have.
-use Rattle.std.proofs.Common.{◌≡◌, ℕ, ◌+◌, ◌*◌, ◌<◌, ◌≤◌, List, [], ◌∷◌, length, get_or, take, drop, refl, ap, sym, ◌∙◌, arith, add-one}
+use Rattle.std.proofs.Common.{◌≡◌, ℕ, ◌+◌, ◌*◌, ◌<◌, ◌≤◌, List, length, get_or, take, drop, refl, ap, arith, add-one}
 use Rattle.std.proofs.Math.Seq.{drop-cons, take-suc}
-use Rattle.game_model.specs.Game.{DynamicGame, IsGame, IsProfile, states, counts, profile_count, profile_number, strategies_of, strategy_at, successor, IsState}
+use Rattle.game_model.specs.Game.{DynamicGame, IsGame, IsProfile, states, counts, profile_count, profile_number, strategy_at, successor}
 use Rattle.game_model.specs.SelfGeneration.{Entry, profile_of}
 use Rattle.game_model.proofs.Profiles.{strategies_of-profile_number, profile_number_below, profile_count-push}
 use Rattle.game_model.proofs.Lists.{few_profiles, profile_count_take_small}

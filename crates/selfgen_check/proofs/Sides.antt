@@ -1,5 +1,5 @@
 -- Both sides of the conditions on a point, as the code forms them and as they are defined.
-use Rattle.std.proofs.Common.{◌≡◌, ℕ, ◌-◌, ◌*◌, List, [], ◌∷◌, refl, ap, sym, ◌∙◌, subst}
+use Rattle.std.proofs.Common.{◌≡◌, ℕ, ◌-◌, ◌*◌, [], ◌∷◌, refl, ◌∙◌}
 use Rattle.std.specs.Prelude.{ℤ, pos, ◌+ℤ◌, ◌*ℤ◌, ◌≤ℤ◌, ◌↔◌}
 use Rattle.exact_algebra.specs.Poly.{var, ◌⊗◌}
 use Rattle.exact_algebra.proofs.Normal.{ring}

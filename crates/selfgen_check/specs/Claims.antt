@@ -1,7 +1,7 @@
 -- An entry that is tested against a correspondence.
-use Rattle.std.specs.Prelude.{◌≡◌, ℕ, ◌<◌, pos}
-use Rattle.game_model.specs.Game.{DynamicGame, IsGame, states}
-use Rattle.game_model.specs.SelfGeneration.{Entry, Correspondence, profile_of}
+use Rattle.std.specs.Prelude.{◌≡◌, ◌<◌, pos}
+use Rattle.game_model.specs.Game.{IsGame, states}
+use Rattle.game_model.specs.SelfGeneration.{Correspondence, profile_of}
 use Rattle.selfgen_check.specs.declared.claim.Claim.{Claim}
 use Rattle.selfgen_check.specs.Limits.{IsSmallEntry, KeepsLimits}
 use Rattle.selfgen_check.specs.Parts.{HasProfile}

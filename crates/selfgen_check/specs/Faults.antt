@@ -1,9 +1,9 @@
 -- The first entry that a correspondence doesn't generate, and its first broken part.
-use Rattle.std.specs.Prelude.{◌≡◌, ℕ, ◌<◌, ◌⊎◌, length}
+use Rattle.std.specs.Prelude.{ℕ, ◌<◌, length}
 use Rattle.game_model.specs.Game.{DynamicGame, states}
 use Rattle.game_model.specs.SelfGeneration.{Correspondence, IsGenerated, entries_of, entry_at}
 use Rattle.selfgen_check.specs.declared.fault.CorrFault.{CorrFault}
-use Rattle.selfgen_check.specs.Parts.{IsFirstBroken, ComesBefore}
+use Rattle.selfgen_check.specs.Parts.{IsFirstBroken}
 
 -- all entries of the state before number n are generated
 abbrev pub AreGenerated : DynamicGame → Correspondence → ℕ → ℕ → Type 0

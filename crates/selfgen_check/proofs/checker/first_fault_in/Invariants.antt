@@ -1,5 +1,3 @@
-use Rattle.std.proofs.Common.{ℕ, ◌<◌, length}
-use Rattle.game_model.specs.SelfGeneration.{entries_of}
 use Rattle.selfgen_check.specs.Faults.{AreGenerated}
 use Rattle.selfgen_check.specs.Promises.{correspondence_of}
 use Rattle.selfgen_check.proofs.checker.first_fault_in.Given as goal

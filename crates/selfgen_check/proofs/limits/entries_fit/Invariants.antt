@@ -1,4 +1,4 @@
-use Rattle.std.proofs.Common.{ℕ, ◌<◌, ◌≤◌, [], length, get_or}
+use Rattle.std.proofs.Common.{ℕ, ◌<◌, get_or}
 use Rattle.game_model.specs.SelfGeneration.{no_entry}
 use Rattle.selfgen_check.specs.Limits.{IsSmallEntry}
 use Rattle.selfgen_check.proofs.limits.entries_fit.Given as goal

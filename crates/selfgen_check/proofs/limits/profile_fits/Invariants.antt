@@ -1,6 +1,6 @@
 use Rattle.std.proofs.Common.{ℕ, ◌<◌, ◌≤◌, ◌^◌}
 use Rattle.std.specs.Prelude.{unsigned_abs, ◌*ℤ◌}
-use Rattle.game_model.specs.Game.{states, counts, profile_count, payoff_at}
+use Rattle.game_model.specs.Game.{payoff_at}
 use Rattle.selfgen_check.proofs.limits.profile_fits.Given as goal
 
 abbrev pub invariant-loop-i : goal.invariant-loop-i

@@ -1,4 +1,4 @@
-use Rattle.std.proofs.Common.{◌≡◌, get_or, length, ◌<◌, arith, sym, subst, refl}
+use Rattle.std.proofs.Common.{◌≡◌, get_or, length, ◌<◌, arith, refl}
 use Rattle.std.proofs.lemmas.Grind.{common_steps}
 use Rattle.game_model.specs.Game.{counts}
 use Rattle.selfgen_check.proofs.Profiles.{IsSmallStep, small_step, number_step, count_step, one_each}

@@ -1,4 +1,4 @@
-use Rattle.std.proofs.Common.{◌≡◌, ◌+◌, ◌<◌, ◌∙◌, length, ap, sym, arith, get_or, to_z}
+use Rattle.std.proofs.Common.{◌<◌, ◌∙◌, length, ap, sym, arith, get_or, to_z}
 use Rattle.std.specs.Prelude.{ℤ, ◌+ℤ◌}
 use mir.Syntax.{w128}
 use Rattle.selfgen_check.proofs.Products.{one_more}

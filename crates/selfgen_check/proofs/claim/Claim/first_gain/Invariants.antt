@@ -1,8 +1,6 @@
 use Rattle.std.proofs.Common.{ℕ, ◌<◌}
 use Rattle.selfgen_check.specs.Claims.{set_of}
-use Rattle.selfgen_check.specs.Parts.{IsPunished, HasValue, Deviates, IsDeterred, reached_from}
-use Rattle.game_model.specs.SelfGeneration.{punishment, entries_of}
-use Rattle.std.proofs.Common.{length}
+use Rattle.selfgen_check.specs.Parts.{Deviates, IsDeterred}
 use Rattle.selfgen_check.proofs.claim.Claim.first_gain.Given as goal
 
 abbrev pub invariant-loop-i : goal.invariant-loop-i

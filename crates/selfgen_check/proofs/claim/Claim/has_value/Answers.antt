@@ -1,8 +1,8 @@
 use Rattle.std.proofs.Common.{◌≡◌, ◌-◌, ◌∙◌, arith, rules, refl, to_z, of_z, FitsSigned}
-use Rattle.std.specs.Prelude.{ℤ, pos, ◌*ℤ◌, slice_index}
+use Rattle.std.specs.Prelude.{pos, ◌*ℤ◌, slice_index}
 use mir.Syntax.{w64, w128}
 use Rattle.std.proofs.lemmas.Int.{to_z-of_z}
-use Rattle.game_model.specs.Game.{payoff_at, counts, successor}
+use Rattle.game_model.specs.Game.{payoff_at}
 use Rattle.game_model.specs.SelfGeneration.{part, total_weight, weighted_part, entries_of, profile_of}
 use Rattle.selfgen_check.specs.Claims.{set_of}
 use Rattle.selfgen_check.specs.Parts.{next_of}

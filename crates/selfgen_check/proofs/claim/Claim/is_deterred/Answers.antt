@@ -1,5 +1,5 @@
-use Rattle.std.proofs.Common.{◌≡◌, ◌-◌, ◌∙◌, arith, rules, refl, to_z, of_z, FitsSigned}
-use Rattle.std.specs.Prelude.{ℤ, pos, ◌*ℤ◌, slice_index}
+use Rattle.std.proofs.Common.{◌≡◌, ◌-◌, ◌∙◌, rules, refl, to_z, of_z, FitsSigned}
+use Rattle.std.specs.Prelude.{pos, ◌*ℤ◌, slice_index}
 use mir.Syntax.{w64}
 use Rattle.std.proofs.lemmas.Int.{to_z-of_z}
 use Rattle.game_model.specs.Game.{payoff_at, deviation_at}
