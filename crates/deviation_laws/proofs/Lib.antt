@@ -1,2 +1,3 @@
-pub mod Following
+pub mod Averages
+pub mod Turns
 pub mod Worths

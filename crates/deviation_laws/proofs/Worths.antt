@@ -10,7 +10,7 @@ use Rattle.game_model.specs.SelfGeneration.{Entry, Correspondence, IsSelfGenerat
 use Rattle.deviation_laws.specs.declared.plan.DevPlan.{DevPlan, Stop, Play', Row_of-DevPlan, end_of-DevPlan, more_of-DevPlan}
 use Rattle.deviation_laws.specs.Fractions.{Fraction, whole, plus, times, divided_by}
 use Rattle.deviation_laws.specs.Plans.{Fits, FitEach, worth, worth_of_each, state_after, outcomes_after}
-use Rattle.deviation_laws.proofs.Following.{Follows, follows, now_of}
+use Rattle.deviation_laws.proofs.Averages.{Follows, follows, now_of}
 
 pub record IsAtMost (x : Fraction) (z : ℤ) : Type 0 where
   pub positive : pos 0 <ℤ x.den

@@ -17,6 +17,7 @@ pub use entry::Entry;
 pub use fault::{CorrFault, Why};
 pub use limits::keeps_limits;
 pub use lottery::Lottery;
+pub use sums::{number_of, place_of};
 
 #[cfg(test)]
 mod tests;

@@ -24,7 +24,7 @@ pub(crate) fn is_profile(game: &Game, s: u32, profile: &List<u32>) -> bool
 }
 
 /// The number of a profile.
-pub(crate) fn number_of(game: &Game, s: u32, profile: &List<u32>) -> u32
+pub fn number_of(game: &Game, s: u32, profile: &List<u32>) -> u32
     requires state { s < states game.now }
     requires profile { IsProfile (counts game.now s) profile.now }
     ensures { result ≡ profile_number (counts game.now s) profile.now }
@@ -54,7 +54,7 @@ pub(crate) fn deviations_before(game: &Game, s: u32, i: u32) -> u32
 }
 
 /// The place of a deviation in the list of all.
-pub(crate) fn place_of(game: &Game, s: u32, profile: &List<u32>, i: u32, b: u32) -> u32
+pub fn place_of(game: &Game, s: u32, profile: &List<u32>, i: u32, b: u32) -> u32
     requires state { s < states game.now }
     requires profile { IsProfile (counts game.now s) profile.now }
     requires player { i < game.now.players }

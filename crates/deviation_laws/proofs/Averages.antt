@@ -1,10 +1,11 @@
 -- What follows a strategy at an entry that is generated: which entries, and that the player doesn't gain on their average.
-use Rattle.std.proofs.Common.{◌≡◌, ◌≢◌, ℕ, zero, suc, ◌+◌, ◌-◌, ◌*◌, ◌<◌, ◌≤◌, Bool, true, false, List, [], ◌∷◌, length, get_or, refl, ap, sym, ◌∙◌, subst, arith, nat_eq, if◌then◌else◌}
+use Rattle.std.proofs.Common.{◌≡◌, ◌≢◌, ℕ, zero, suc, ◌+◌, ◌-◌, ◌*◌, ◌<◌, ◌≤◌, Bool, true, false, inl, inr, List, [], ◌∷◌, length, get_or, refl, ap, sym, ◌∙◌, subst, arith, nat_eq, if◌then◌else◌}
 use Rattle.std.specs.Prelude.{ℤ, pos, ◌+ℤ◌, ◌*ℤ◌, ◌≤ℤ◌, slice_index}
 use Rattle.std.proofs.Math.ListN.{set}
 use Rattle.std.proofs.lemmas.Int.{ints}
-use Rattle.std.proofs.lemmas.List.{set-get_or}
-use Rattle.std.proofs.lemmas.Bool.Decides.{nat_tests}
+use Rattle.std.proofs.lemmas.List.{set-get_or, get_or_read}
+use Rattle.std.proofs.lemmas.Bool.Decides.{nat_tests, eqb_tells}
+use Rattle.std.proofs.lemmas.Bool.{eq-eqb}
 use Rattle.exact_algebra.specs.Poly.{var, lit, ◌⊕◌, ◌⊗◌}
 use Rattle.exact_algebra.proofs.Normal.{ring}
 use Rattle.exact_algebra.proofs.Order.{at_most_from_same}
@@ -24,7 +25,7 @@ pub record Follows (g : DynamicGame) (c : Correspondence) (s : ℕ) (e : Entry) 
   pub bound : ((now_of g c s e i b *ℤ pos (total_weight os)) +ℤ (pos (slice_index g.discounts i) *ℤ weighted_part (entries_of c (state_after g s e i b)) i os))
       ≤ℤ ((pos g.q *ℤ part e.point i) *ℤ pos (total_weight os))
 
-one_each : (g : DynamicGame) (s : ℕ) → IsGame g → s < states g → length (counts g s) ≡ g.players
+pub one_each : (g : DynamicGame) (s : ℕ) → IsGame g → s < states g → length (counts g s) ≡ g.players
 one_each g s ok state = (ok.each_state s state).one_each
 
 own_is : (g : DynamicGame) (s : ℕ) (e : Entry) (i : ℕ) → IsProfile (counts g s) e.profile → strategy_at g s (profile_of g s e) i ≡ get_or e.profile i 0
@@ -37,7 +38,7 @@ stays g s e i fits =
     ∙ ap (λ (xs : List ℕ). profile_number (counts g s) xs) (strategies_of-profile_number (counts g s) e.profile fits)
 
 -- each strategy leads to a state
-after_known : (g : DynamicGame) (s : ℕ) (e : Entry) (i b : ℕ) → IsGame g → s < states g → IsProfile (counts g s) e.profile → i < g.players → b < slice_index (counts g s) i → state_after g s e i b < states g
+pub after_known : (g : DynamicGame) (s : ℕ) (e : Entry) (i b : ℕ) → IsGame g → s < states g → IsProfile (counts g s) e.profile → i < g.players → b < slice_index (counts g s) i → state_after g s e i b < states g
 after_known g s e i b ok state fits player within =
     let ms : List ℕ = counts g s in
     let n : length ms ≡ g.players = one_each g s ok state in
@@ -92,3 +93,27 @@ follows_by g c s e i b ok state made player within false h =
 pub follows : (g : DynamicGame) (c : Correspondence) (s : ℕ) (e : Entry) (i b : ℕ) → IsGame g → s < states g → IsGenerated g c s e → i < g.players → b < slice_index (counts g s) i →
     Follows g c s e i b (outcomes_after g s e i b)
 follows g c s e i b ok state made player within = follows_by g c s e i b ok state made player within (nat_eq b (strategy_at g s (profile_of g s e) i)) refl
+
+pub number_known : (g : DynamicGame) (s : ℕ) (e : Entry) → IsProfile (counts g s) e.profile → profile_of g s e < profile_count (counts g s)
+number_known g s e fits = profile_number_below (counts g s) e.profile fits
+
+-- the two cases of what may follow
+pub outcomes_own : (g : DynamicGame) (s : ℕ) (e : Entry) (i b : ℕ) → IsProfile (counts g s) e.profile → b ≡ get_or e.profile i 0 → outcomes_after g s e i b ≡ e.lottery
+outcomes_own g s e i b fits h =
+    let same : nat_eq b (strategy_at g s (profile_of g s e) i) ≡ true = eq-eqb b (strategy_at g s (profile_of g s e) i) (h ∙ sym (own_is g s e i fits)) in
+    ap (λ (t : Bool). if t then e.lottery else ((punishment g s e i b, 1) ∷ [])) same
+
+unequal : (x y : ℕ) → x ≢ y → nat_eq x y ≡ false
+unequal x y h = elim (eqb_tells x y) [
+  | inl p ↦ absurd (h p.1)
+  | inr p ↦ p.0
+]
+
+pub outcomes_other : (g : DynamicGame) (s : ℕ) (e : Entry) (i b : ℕ) → IsProfile (counts g s) e.profile → b ≢ get_or e.profile i 0 → outcomes_after g s e i b ≡ (punishment g s e i b, 1) ∷ []
+outcomes_other g s e i b fits h =
+    let other : nat_eq b (strategy_at g s (profile_of g s e) i) ≡ false = unequal b (strategy_at g s (profile_of g s e) i) (λ x. h (x ∙ own_is g s e i fits)) in
+    ap (λ (t : Bool). if t then e.lottery else ((punishment g s e i b, 1) ∷ [])) other
+
+-- what is read at a place, whatever stands for a missing item
+pub own_read : (xs ys : List ℕ) (i x : ℕ) → xs ≡ ys → x ≡ get_or xs i x → i < length ys → x ≡ get_or ys i 0
+own_read xs ys i x e h within = get_or_read ys i x within (rw e at h) 0
