@@ -1,15 +1,14 @@
 -- What follows a strategy at an entry that is generated: which entries, and that the player doesn't gain on their average.
-use Rattle.std.proofs.Common.{◌≡◌, ◌≢◌, ℕ, zero, suc, ◌+◌, ◌-◌, ◌*◌, ◌<◌, ◌≤◌, Bool, true, false, inl, inr, List, [], ◌∷◌, length, get_or, refl, ap, sym, ◌∙◌, subst, arith, nat_eq, if◌then◌else◌}
+use Rattle.std.proofs.Common.{◌≡◌, ◌≢◌, ℕ, zero, suc, ◌-◌, ◌*◌, ◌<◌, Bool, true, false, inl, inr, List, [], ◌∷◌, length, get_or, refl, ap, sym, ◌∙◌, arith, nat_eq, if◌then◌else◌}
 use Rattle.std.specs.Prelude.{ℤ, pos, ◌+ℤ◌, ◌*ℤ◌, ◌≤ℤ◌, slice_index}
 use Rattle.std.proofs.Math.ListN.{set}
-use Rattle.std.proofs.lemmas.Int.{ints}
 use Rattle.std.proofs.lemmas.List.{set-get_or, get_or_read}
 use Rattle.std.proofs.lemmas.Bool.Decides.{nat_tests, eqb_tells}
 use Rattle.std.proofs.lemmas.Bool.{eq-eqb}
 use Rattle.exact_algebra.specs.Poly.{var, lit, ◌⊕◌, ◌⊗◌}
 use Rattle.exact_algebra.proofs.Normal.{ring}
 use Rattle.exact_algebra.proofs.Order.{at_most_from_same}
-use Rattle.game_model.specs.Game.{DynamicGame, IsGame, IsState, IsProfile, IsDeviation, states, counts, profile_count, profile_number, strategies_of, strategy_at, deviation_at, successor, payoff_at, reached}
+use Rattle.game_model.specs.Game.{DynamicGame, IsGame, IsProfile, IsDeviation, states, counts, profile_count, profile_number, strategies_of, strategy_at, successor, payoff_at}
 use Rattle.game_model.specs.SelfGeneration.{Entry, Correspondence, IsGenerated, entries_of, entry_at, part, total_weight, weighted_part, profile_of, punishment}
 use Rattle.game_model.proofs.Profiles.{strategies_of-profile_number, profile_number_below, IsProfile-set}
 use Rattle.deviation_laws.specs.Plans.{profile_after, state_after, outcomes_after}

@@ -1,12 +1,12 @@
 -- No plan is worth more than the entry's part, by induction on the plan.
-use Rattle.std.proofs.Common.{◌≡◌, ℕ, zero, suc, ◌+◌, ◌-◌, ◌*◌, ◌<◌, ◌≤◌, List, [], ◌∷◌, length, get_or, refl, ap, sym, ◌∙◌, subst, arith}
+use Rattle.std.proofs.Common.{◌≡◌, ℕ, suc, ◌<◌, List, [], ◌∷◌, length, get_or, refl, arith}
 use Rattle.std.specs.Prelude.{ℤ, pos, ◌+ℤ◌, ◌*ℤ◌, ◌≤ℤ◌, ◌<ℤ◌, slice_index}
 use Rattle.std.proofs.lemmas.Int.{ints}
 use Rattle.exact_algebra.specs.Poly.{var, lit, ◌⊕◌, ◌⊗◌}
 use Rattle.exact_algebra.proofs.Normal.{ring}
 use Rattle.exact_algebra.proofs.Order.{at_most_self, times_at_most, product_above_zero, product_at_least_zero}
 use Rattle.game_model.specs.Game.{DynamicGame, IsGame, states}
-use Rattle.game_model.specs.SelfGeneration.{Entry, Correspondence, IsSelfGenerating, no_entry, entries_of, entry_at, part, total_weight, weighted_part}
+use Rattle.game_model.specs.SelfGeneration.{Entry, Correspondence, IsSelfGenerating, entries_of, entry_at, part, total_weight, weighted_part}
 use Rattle.deviation_laws.specs.declared.plan.DevPlan.{DevPlan, Stop, Play', Row_of-DevPlan, end_of-DevPlan, more_of-DevPlan}
 use Rattle.deviation_laws.specs.Fractions.{Fraction, whole, plus, times, divided_by}
 use Rattle.deviation_laws.specs.Plans.{Fits, FitEach, worth, worth_of_each, state_after, outcomes_after}

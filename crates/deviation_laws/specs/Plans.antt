@@ -1,5 +1,5 @@
 -- Plans of deviations of one player, and what they are worth to the player. The other players follow the entries.
-use Rattle.std.specs.Prelude.{◌≡◌, ℕ, ◌-◌, ◌*◌, ◌<◌, List, [], ◌∷◌, slice_index, nat_eq, if◌then◌else◌, pos, ◌*ℤ◌}
+use Rattle.std.specs.Prelude.{ℕ, ◌-◌, ◌*◌, ◌<◌, List, [], ◌∷◌, slice_index, nat_eq, if◌then◌else◌, pos, ◌*ℤ◌}
 use Rattle.game_model.specs.Game.{DynamicGame, counts, payoff_at, successor, strategy_at, deviation_at}
 use Rattle.game_model.specs.SelfGeneration.{Correspondence, Entry, entry_at, part, total_weight, punishment, profile_of}
 use Rattle.deviation_laws.specs.declared.plan.DevPlan.{DevPlan, Stop, Play', Row_of-DevPlan, end_of-DevPlan, more_of-DevPlan}

@@ -9,3 +9,6 @@ mod plan;
 pub use fitting::fits;
 pub use laws::no_gain;
 pub use plan::DevPlan;
+
+#[cfg(test)]
+mod tests;

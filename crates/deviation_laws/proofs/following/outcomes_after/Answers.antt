@@ -1,10 +1,9 @@
-use Rattle.std.proofs.Common.{◌≡◌, ◌<◌, ◌∙◌, ap, sym, subst, arith, get_or, length, ℕ, [], ◌∷◌}
-use Rattle.std.proofs.lemmas.Grind.{common_steps}
-use Rattle.game_model.specs.Game.{IsGame, states, counts, profile_count, profile_number}
-use Rattle.game_model.specs.SelfGeneration.{Entry, IsGenerated, entry_at, punishment, profile_of}
+use Rattle.std.proofs.Common.{◌≡◌, ◌∙◌, ap, sym, subst, arith, get_or, ℕ, [], ◌∷◌}
+use Rattle.game_model.specs.Game.{IsGame}
+use Rattle.game_model.specs.SelfGeneration.{Entry, IsGenerated, entry_at, punishment}
 use Rattle.selfgen_check.specs.Promises.{correspondence_of}
 use Rattle.deviation_laws.specs.Plans.{outcomes_after}
-use Rattle.deviation_laws.proofs.Averages.{number_known, own_read, one_each, follows, outcomes_own, outcomes_other, after_known, Follows}
+use Rattle.deviation_laws.proofs.Averages.{own_read, one_each, follows, outcomes_own, outcomes_other}
 use Rattle.deviation_laws.proofs.following.outcomes_after.Goals as goal
 
 pub returns-then-strategy-get-clause-outcomes : goal.returns-then-strategy-get-clause-outcomes

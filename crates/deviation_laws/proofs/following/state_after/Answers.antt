@@ -1,10 +1,8 @@
-use Rattle.std.proofs.Common.{◌≡◌, ◌<◌, ◌∙◌, sym, subst, arith, get_or, length, [], ◌∷◌}
-use Rattle.std.proofs.lemmas.Grind.{common_steps}
-use Rattle.game_model.specs.Game.{IsGame, states, counts, profile_count, profile_number}
-use Rattle.game_model.specs.SelfGeneration.{Entry, IsGenerated, entry_at, punishment, profile_of}
+use Rattle.std.proofs.Common.{subst}
+use Rattle.game_model.specs.Game.{IsGame}
+use Rattle.game_model.specs.SelfGeneration.{IsGenerated, entry_at}
 use Rattle.selfgen_check.specs.Promises.{correspondence_of}
-use Rattle.deviation_laws.specs.Plans.{outcomes_after}
-use Rattle.deviation_laws.proofs.Averages.{number_known, follows, outcomes_own, outcomes_other, after_known, Follows}
+use Rattle.deviation_laws.proofs.Averages.{after_known}
 use Rattle.deviation_laws.proofs.following.state_after.Goals as goal
 
 pub returns-clause-in_range : goal.returns-clause-in_range

@@ -1,4 +1,4 @@
-use Rattle.std.proofs.Common.{◌≡◌, sym, subst}
+use Rattle.std.proofs.Common.{subst}
 use Rattle.game_model.specs.Game.{IsGame}
 use Rattle.game_model.specs.SelfGeneration.{entry_at, part}
 use Rattle.selfgen_check.specs.Promises.{correspondence_of}
