@@ -1,0 +1,3 @@
+pub mod Averages
+pub mod Turns
+pub mod Worths

@@ -1,0 +1,14 @@
+//! Plans of finitely many deviations from a self-generating correspondence, and that none of them gains.
+#![tactic(auto)]
+
+mod fitting;
+mod following;
+mod laws;
+mod plan;
+
+pub use fitting::fits;
+pub use laws::no_gain;
+pub use plan::DevPlan;
+
+#[cfg(test)]
+mod tests;

@@ -1,0 +1,6 @@
+pub mod Deviations
+pub mod Dilemma
+pub mod Products
+pub mod Profiles
+pub mod Sides
+pub mod Weights
