@@ -95,6 +95,25 @@ fn lower_row(board: &Board<'_>, worker: &mut Worker)
     worker.drawn = board.draw(&mut worker.pass);
 }
 
+/// Lowers the row to its row level as the owner.
+fn lower_as_owner(board: &Board<'_>, owner: &mut Owner) -> Level
+    requires board { owner.old.board ≡ board.now }
+    requires row { 4 < rows_of board.now.frame }
+    requires fresh { IsFresh board.now.frame owner.old.seen }
+    ensures board { owner.new.board ≡ board.now }
+{
+    board.lower_owner(owner, 4, 16)
+}
+
+/// Lowers the row to its row level, and loads it.
+fn lower_and_load(board: &Board<'_>, worker: &mut Worker)
+    requires { IsReady board.now worker.old.pass }
+    ensures { worker.new.pass.board ≡ board.now }
+{
+    lower_row(board, worker);
+    worker.found = board.load(&mut worker.pass, 4);
+}
+
 /// Loads the row until it finds the lower level, without a join.
 fn await_lower(board: &Board<'_>, worker: &mut Worker)
     requires board { worker.old.pass.board ≡ board.now }
@@ -186,5 +205,46 @@ fn a_pass_sees_what_another_lowers(rt: HostRuntime) -> Result<(), Fail> {
     assert!(rt; workers[0].drawn < 2 && workers[1].drawn < 2);
     assert!(rt; workers[0].drawn != workers[1].drawn);
     assert_eq!(rt; board.load_owner(&mut owner, 4), Level::At(16));
+    Ok(())
+}
+
+#[test]
+fn a_pass_sees_what_the_owner_lowers(rt: HostRuntime) -> Result<(), Fail> {
+    let parts = falling_parts(rt.alloc())?;
+    let game = falling_game(parts).ok_or("the parts fit")?;
+    let dirs = four().ok_or("two players have four directions")?;
+    let (board, mut owner) = open_falling(rt.alloc(), &game, &dirs)?;
+    let mut pass = split_fresh(&board, &mut owner);
+    assert_eq!(rt; lower_as_owner(&board, &mut owner), Level::At(32));
+    assert_eq!(rt; board.load(&mut pass, 4), Level::At(16));
+    Ok(())
+}
+
+fn race_down<R: Threads + Sync>(rt: &R, board: &Board<'_>, workers: &mut Vec<Worker>)
+    requires { All (λ w. IsReady board.now w.pass) workers.old.items }
+    ensures { All (λ w. w.pass.board ≡ board.now) workers.new.items }
+{
+    thread::for_each_mut(
+        rt,
+        workers.as_mut_slice(),
+        4,
+        &|_, worker: &mut Worker| lower_and_load(board, worker),
+    );
+}
+
+#[test]
+fn two_passes_lower_and_load_one_row(rt: HostRuntime) -> Result<(), Fail> {
+    let parts = falling_parts(rt.alloc())?;
+    let game = falling_game(parts).ok_or("the parts fit")?;
+    let dirs = four().ok_or("two players have four directions")?;
+    let (board, mut owner) = open_falling(rt.alloc(), &game, &dirs)?;
+    let one = split_fresh(&board, &mut owner);
+    let two = split_fresh(&board, &mut owner);
+    let mut workers = two_workers(rt.alloc(), &board, one, two)?;
+    race_down(&rt, &board, &mut workers);
+    assert!(rt; workers.len() == 2);
+    assert_eq!(rt; workers[0].found, Level::At(16));
+    assert_eq!(rt; workers[1].found, Level::At(16));
+    assert!(rt; workers[0].drawn != workers[1].drawn);
     Ok(())
 }

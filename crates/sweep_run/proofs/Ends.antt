@@ -28,9 +28,7 @@ use Rattle.set_operator.specs.declared.row.Verdict.TheVariants.{Supported, Unsup
 use Rattle.settle_test.specs.Verdicts.{FailsAt, IsVerdict, direction_of, state_of}
 use Rattle.settle_test.proofs.Places.{row_here, row_known}
 use Rattle.sweep_run.specs.Runs.{IsAfterSweeps, IsEnough, IsLastSweep, IsRunFrom, IsRunning, IsSupportedVerdict}
-use Rattle.sweep_run.specs.Sweeper.{IsRunOf, IsSettling, IsSweeper, problem_in}
-use Rattle.worker_pass.specs.Sweeps.{IsCleared}
-use Rattle.schedule_core.specs.Frame.{Frame, IsFrame, IsSeen, rows_of}
+use Rattle.sweep_run.specs.Sweeper.{IsRunOf, IsSettling, problem_in}
 use Rattle.worker_pass.specs.Clearings.{AreNamed, KeepsNotes}
 use Rattle.worker_pass.proofs.Naming.{number_is, some_direction}
 use Rattle.sweep_run.specs.Sweeps.{IsRunTable, IsSound, IsSwept}

@@ -1,7 +1,6 @@
 -- The notes of a run: which states they name.
-use Rattle.std.proofs.Common.{◌≡◌, ◌⊎◌, ⊎_elim, ℕ, ◌<◌, List}
+use Rattle.std.proofs.Common.{◌≡◌, ⊎_elim, ℕ, ◌<◌, List}
 use Rattle.std.specs.Prelude.{◌↔◌}
-use Rattle.game_model.specs.Game.{states}
 use Rattle.level_table.specs.declared.level.Level.TheVariants.{Empty}
 use Rattle.level_table.specs.declared.reason.Note.{Note}
 use Rattle.level_table.specs.Problem.{Problem, direction_count, IsProblem}

@@ -1,5 +1,5 @@
 -- what a sweep leaves of a table
-use Rattle.std.proofs.Common.{◌≡◌, ◌*◌, ℕ, length, sym, ◌∙◌}
+use Rattle.std.proofs.Common.{◌≡◌, ◌*◌, length, sym, ◌∙◌}
 use Rattle.level_table.specs.Problem.{Problem}
 use Rattle.level_table.specs.Levels.{Levels, Table, levels_in}
 use Rattle.level_table.specs.Tables.{IsSmallTable}

@@ -1,20 +1,17 @@
 -- what a sweep of the workers makes of a run
-use Rattle.std.proofs.Common.{◌≡◌, ◌⊎◌, inl, inr, ⊎_elim, ℕ, ◌*◌, ◌/◌, ◌%◌, ◌<◌, List, length, refl, sym, ap, subst, ◌∙◌, arith}
-use Rattle.std.specs.Prelude.{◌↔◌}
+use Rattle.std.proofs.Common.{◌≡◌, inl, inr, ℕ, ◌*◌, ◌/◌, ◌%◌, List, refl, sym, ap, subst, ◌∙◌, arith}
 use Rattle.std.proofs.lemmas.Bool.{cases_eq}
-use Rattle.game_model.specs.Game.{states}
 use Rattle.level_table.specs.declared.level.Level.{Level}
 use Rattle.level_table.specs.declared.level.Level.TheVariants.{Empty, At}
 use Rattle.level_table.specs.declared.reason.Note.{Note}
-use Rattle.level_table.specs.Problem.{Problem, direction_count}
-use Rattle.level_table.specs.Levels.{Table, IsBelow, IsNumber, IsRow, IsSmall, AtMost, level_at, levels_in}
+use Rattle.level_table.specs.Levels.{Table, IsBelow, IsNumber, IsSmall, AtMost, level_at, levels_in}
 use Rattle.level_table.specs.Notes.{Named}
 use Rattle.level_table.specs.Start.{IsBetween, IsStart}
 use Rattle.level_table.specs.Supported.{IsEven}
 use Rattle.level_table.specs.Tables.{IsSmallTable}
 use Rattle.bound_laws.proofs.Levels.{level_at_most_self}
 use Rattle.level_board.specs.Board.{OwnerView}
-use Rattle.schedule_core.specs.Frame.{Frame, IsFallen, IsFrame, IsSeen, NamesEmpty, rows_of}
+use Rattle.schedule_core.specs.Frame.{Frame, IsFallen, IsFrame, IsSeen, NamesEmpty}
 use Rattle.schedule_core.proofs.Levels.{by_row, row_known, row_of}
 use Rattle.worker_pass.specs.Clearings.{AreNamed, KeepsNotes}
 use Rattle.worker_pass.specs.Sweeps.{HoldsButFirst, IsCleared, IsSweep}

@@ -1,12 +1,12 @@
 -- What is ready stays so where a number of no axis changes.
-use Rattle.std.proofs.Common.{◌≡◌, ◌≢◌, inl, inr, ℕ, ◌+◌, ◌*◌, ◌%◌, ◌<◌, ◌≤◌, List, length, refl, sym, ap, subst, ◌∙◌, arith, Option, Some, None}
+use Rattle.std.proofs.Common.{◌≡◌, inl, inr, ℕ, ◌+◌, ◌*◌, ◌%◌, ◌<◌, ◌≤◌, length, sym, ap, subst, ◌∙◌, arith, Option, Some, None}
 use Rattle.std.specs.Prelude.{IfSome}
 use Rattle.std.proofs.lemmas.Bool.{cases_eq}
 use Rattle.std.proofs.lemmas.List.{get_or-set_same, get_or-set_other, length-set}
 use Rattle.std.proofs.lemmas.Nat.{mod-mul-add}
 use Rattle.level_table.specs.declared.level.Level.{Level}
 use Rattle.level_table.specs.Problem.{Problem, direction_count}
-use Rattle.level_table.specs.Levels.{Levels, Table, IsNumber, IsRow, IsSmall, level_at, levels_in}
+use Rattle.level_table.specs.Levels.{Levels, Table, IsNumber, IsSmall, level_at, levels_in}
 use Rattle.level_table.specs.Tables.{HasSmallOpening, IsSmallTable}
 use Rattle.schedule_core.specs.Frame.{Frame, IsFrame, with_level}
 use Rattle.set_operator.specs.Prepared.{IsPrepared, KeepsAxes, PreparedState}

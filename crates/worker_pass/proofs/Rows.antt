@@ -1,6 +1,6 @@
 -- What an update leaves.
-use Rattle.std.proofs.Common.{◌≡◌, ◌≢◌, ◌⊎◌, inl, inr, ℕ, ◌+◌, ◌*◌, ◌/◌, ◌%◌, ◌^◌, ◌<◌, ◌≤◌, ◌≤ℤ◌, List, length, get_or, refl, sym, ap, subst, ◌∙◌, arith, w64, Option, Some, None}
-use Rattle.std.specs.Prelude.{ℤ, pos, neg_ℤ, ◌<ℤ◌}
+use Rattle.std.proofs.Common.{◌≡◌, ◌≢◌, ◌⊎◌, inl, inr, ℕ, ◌+◌, ◌*◌, ◌/◌, ◌%◌, ◌^◌, ◌<◌, ◌≤◌, ◌≤ℤ◌, length, refl, sym, ap, subst, ◌∙◌, arith, w64, Option, Some}
+use Rattle.std.specs.Prelude.{ℤ, ◌<ℤ◌}
 use Rattle.std.specs.Int.{int_min}
 use Rattle.std.specs.Int.RustNames.{unsigned_abs}
 use Rattle.std.proofs.lemmas.Int.{ints, clamps, to_z-of_z, fits_signed_from_abs}
@@ -32,7 +32,7 @@ use Rattle.worker_pass.specs.Scratches.{HoldsAfter, IsLoaded}
 use Rattle.worker_pass.specs.Updates.{FollowsRow, IsAnswer, IsLowering, IsPassedRow, IsUpdated}
 use Rattle.worker_pass.specs.declared.updating.UpdateNote.{UpdateNote}
 use Rattle.worker_pass.specs.declared.updating.UpdateNote.TheVariants as notes
-use Rattle.worker_pass.proofs.Falling.{below_rows, fallen_self, fallen_same}
+use Rattle.worker_pass.proofs.Falling.{fallen_self, fallen_same}
 
 -- ---- a row level reads only what follows
 deviation_known : (g : DynamicGame) (s a i b : ℕ) → IsGame g → s < states g → a < profile_count (counts g s) → IsDeviation g s a i b → deviation_at g s a i b < profile_count (counts g s)

@@ -1,5 +1,5 @@
 -- States that have a note are Empty, and no others.
-use Rattle.std.proofs.Common.{◌≡◌, ◌≢◌, ◌⊎◌, inl, inr, ⊎_elim, ℕ, zero, suc, ◌+◌, ◌*◌, ◌/◌, ◌%◌, ◌<◌, ◌≤◌, ◌++◌, List, [], ◌∷◌, length, refl, sym, ap, subst, ◌∙◌, arith}
+use Rattle.std.proofs.Common.{◌≡◌, ◌≢◌, ◌⊎◌, inl, inr, ⊎_elim, ℕ, suc, ◌+◌, ◌*◌, ◌/◌, ◌%◌, ◌<◌, ◌≤◌, ◌++◌, List, [], ◌∷◌, length, refl, sym, ap, subst, ◌∙◌, arith}
 use Rattle.std.proofs.lemmas.Bool.{cases_eq, cases_lt}
 use Rattle.std.proofs.lemmas.List.{length_push}
 use Rattle.std.proofs.Math.Nat.{mod-lt}
@@ -18,9 +18,9 @@ use Rattle.bound_laws.specs.Laws.{KeepsSupported}
 use Rattle.bound_laws.proofs.Levels.{level_at_most_trans}
 use Rattle.bound_laws.proofs.Operator.{admissible_grows}
 use Rattle.level_board.specs.Board.{BoardId, OwnerView}
-use Rattle.schedule_core.specs.Frame.{Frame, IsFallen, IsFrame, IsSeen, NamedRow, NamesEmpty, rows_of}
+use Rattle.schedule_core.specs.Frame.{Frame, IsFallen, IsFrame, IsSeen, NamedRow, NamesEmpty}
 use Rattle.schedule_core.proofs.Levels.{by_row, row_of, seen_is_kept}
-use Rattle.worker_pass.specs.Clearings.{AreCleared, AreNamed, AreSame, IsEmptied, IsGoneThrough, StaysUncleared}
+use Rattle.worker_pass.specs.Clearings.{AreCleared, AreNamed, IsGoneThrough}
 use Rattle.worker_pass.specs.Sweeps.{HoldsButFirst, IsCleared}
 use Rattle.worker_pass.proofs.Naming.{all_empty, empty_from_at_most, named_split, number_is, some_direction}
 

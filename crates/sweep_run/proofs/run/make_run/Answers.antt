@@ -1,9 +1,7 @@
-use Rattle.std.proofs.Common.{◌≡◌, ◌≤◌, ◌+◌, ℕ, List, Option, None, Some, refl, sym, ap, subst, ◌∙◌, arith}
-use Rattle.level_table.specs.declared.reason.Note.{Note}
-use Rattle.level_table.specs.Levels.{Table, levels_in}
+use Rattle.std.proofs.Common.{◌≡◌, ◌≤◌, ◌+◌, ℕ, None, Some, refl, sym, ap, subst, ◌∙◌, arith}
+use Rattle.level_table.specs.Levels.{levels_in}
 use Rattle.level_table.specs.Problem.{Problem}
 use Rattle.level_board.specs.Board.{BoardId}
-use Rattle.set_operator.specs.declared.row.Verdict.{Verdict}
 use Rattle.settle_test.specs.Verdicts.{IsVerdict}
 use Rattle.worker_pass.specs.Clearings.{AreNamed}
 use Rattle.sweep_run.specs.Runs.{IsRunning}

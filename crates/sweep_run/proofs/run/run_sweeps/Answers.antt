@@ -1,9 +1,8 @@
-use Rattle.std.proofs.Common.{◌∙◌, List, [], refl, sym, subst, ap, length}
+use Rattle.std.proofs.Common.{◌∙◌, [], refl, sym, subst, ap, length}
 use Rattle.level_table.specs.Iterates.{drop_of}
 use Rattle.level_table.specs.Levels.{Table, levels_in, opening_table}
 use Rattle.level_table.specs.Problem.{IsProblem, Problem, problem_of}
 use Rattle.level_table.specs.Tables.{IsSmallTable}
-use Rattle.level_table.specs.declared.reason.Note.{Note}
 use Rattle.bound_laws.proofs.Start.{opening_has_bounds}
 use Rattle.schedule_core.specs.Frame.{IsOpened, frame_from}
 use Rattle.sweep_run.specs.Runs.{IsRunning}

@@ -1,11 +1,9 @@
-use Rattle.std.proofs.Common.{◌≡◌, ◌++◌, [], ◌∷◌, List, ℕ, sym, subst, ◌∙◌}
+use Rattle.std.proofs.Common.{◌++◌, [], ◌∷◌, List, sym, subst, ◌∙◌}
 use Rattle.level_table.specs.declared.reason.Note.{Note}
 use Rattle.level_table.specs.Levels.{Table, levels_in}
 use Rattle.level_table.specs.Notes.{Named}
 use Rattle.schedule_core.specs.Frame.{IsFallen}
-use Rattle.level_board.proofs.Moments.{fallen_trans}
 use Rattle.worker_pass.specs.Clearings.{KeepsNotes}
-use Rattle.worker_pass.proofs.Falling.{fallen_same}
 use Rattle.worker_pass.proofs.Naming.{named_new, noted_cleared}
 use Rattle.worker_pass.proofs.States.{AreMarkedOff, cleared_more_state, emptied, is_even, marked_off, names_empty}
 use Rattle.worker_pass.proofs.clearing.clear_dead.Goals as goal

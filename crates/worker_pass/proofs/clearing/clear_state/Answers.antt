@@ -1,4 +1,4 @@
-use Rattle.std.proofs.Common.{◌≡◌, ℕ, ◌+◌, ◌*◌, ◌<◌, below_more, sym, ap, subst, ◌∙◌, arith}
+use Rattle.std.proofs.Common.{◌≡◌, ℕ, ◌+◌, ◌*◌, ◌<◌, below_more, ap, subst, ◌∙◌, arith}
 use Rattle.level_table.specs.declared.level.Level.TheVariants.{Empty}
 use Rattle.level_table.specs.Levels.{level_at}
 use Rattle.level_board.proofs.Moments.{fallen_trans}

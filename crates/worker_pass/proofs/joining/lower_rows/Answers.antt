@@ -1,5 +1,4 @@
-use Rattle.std.proofs.Common.{◌≡◌, inl, inr, ℕ, ◌<◌, length, slice_index_or, sym, ◌∙◌, subst, arith}
-use Rattle.level_table.specs.Levels.{IsBelow, Table, levels_in}
+use Rattle.std.proofs.Common.{inl, inr, ℕ, ◌<◌, length, slice_index_or, arith}
 use Rattle.level_board.proofs.Moments.{fallen_trans}
 use Rattle.schedule_core.specs.Frame.{IsFallen, IsFrame}
 use Rattle.worker_pass.specs.declared.working.Worker.{Worker}

@@ -1,8 +1,7 @@
-use Rattle.std.proofs.Common.{◌≡◌, ◌+◌, ◌++◌, ◌∷◌, [], List, All, vec_len, sym, subst, arith}
+use Rattle.std.proofs.Common.{◌≡◌, ◌++◌, ◌∷◌, [], All, sym, subst, arith}
 use Rattle.std.proofs.lemmas.List.Elements.{All-push}
 use Rattle.level_board.proofs.Moments.{fallen_trans}
 use Rattle.schedule_core.specs.Frame.{IsFallen}
-use Rattle.worker_pass.specs.declared.working.Worker.{Worker}
 use Rattle.worker_pass.specs.Work.{IsWorkerOf}
 use Rattle.worker_pass.proofs.sweeping.crew.Goals as goal
 

@@ -1,4 +1,4 @@
-use Rattle.std.proofs.Common.{◌≡◌, inl, inr, ℕ, ◌<◌, slice_index_or, set, sym, subst, below_more, arith}
+use Rattle.std.proofs.Common.{inl, inr, ℕ, slice_index_or, set, sym, subst, arith}
 use Rattle.std.proofs.lemmas.Bool.{cases_eq}
 use Rattle.std.proofs.lemmas.List.{get_or-set_same, get_or-set_other}
 use Rattle.level_board.proofs.Moments.{fallen_trans}

@@ -1,5 +1,4 @@
-use Rattle.std.proofs.Common.{◌≡◌, sym, ap, subst, ◌∙◌}
-use Rattle.level_table.specs.Levels.{Table}
+use Rattle.std.proofs.Common.{◌≡◌, ◌∙◌}
 use Rattle.level_board.specs.Board.{BoardId, OwnerView}
 use Rattle.level_board.proofs.Moments.{fallen_trans}
 use Rattle.schedule_core.specs.Frame.{IsFallen}

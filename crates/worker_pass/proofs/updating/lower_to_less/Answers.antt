@@ -1,11 +1,10 @@
-use Rattle.std.proofs.Common.{◌≡◌, ◌/◌, ◌%◌, Option, Some, None, refl, sym, subst, ◌∙◌, w64}
+use Rattle.std.proofs.Common.{◌≡◌, ◌/◌, ◌%◌, Some, None, refl, sym, subst, ◌∙◌, w64}
 use Rattle.std.specs.Prelude.{ℤ}
 use Rattle.std.specs.Int.Signed.{lt_z_no, lt_z_yes}
 use Rattle.std.proofs.lemmas.Float.{T_from_false, T_from_true}
 use Rattle.std.proofs.lemmas.Int.{to_z-of_z}
 use Rattle.std.proofs.lemmas.List.{length-set}
 use mir.Val.{to_z, of_z}
-use Rattle.level_table.specs.declared.level.Level.{Level}
 use Rattle.level_table.specs.declared.level.Level.TheVariants.{At}
 use Rattle.level_table.specs.Levels.{IsSmall, level_at, levels_in}
 use Rattle.level_table.specs.Problem.{Problem}

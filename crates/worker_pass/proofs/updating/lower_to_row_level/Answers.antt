@@ -1,4 +1,4 @@
-use Rattle.std.proofs.Common.{◌≡◌, ◌/◌, ◌%◌, refl, sym, subst, ◌∙◌, w64}
+use Rattle.std.proofs.Common.{◌/◌, ◌%◌, refl, sym, subst, ◌∙◌, w64}
 use Rattle.std.specs.Prelude.{ℤ}
 use mir.Val.{to_z, of_z}
 use Rattle.level_table.specs.declared.level.Level.TheVariants.{At}
@@ -8,7 +8,6 @@ use Rattle.schedule_core.specs.Frame.{IsRowLevelOf, IsSeen}
 use Rattle.set_operator.specs.Answers.{IsRowAnswer}
 use Rattle.set_operator.specs.declared.row.RowAnswer.TheVariants as answers
 use Rattle.worker_pass.specs.Scratches.{IsScratch}
-use Rattle.worker_pass.specs.declared.scratch.Scratch.{Scratch}
 use Rattle.worker_pass.proofs.Falling.{scratch_directions, seen_on}
 use Rattle.worker_pass.proofs.Rows.{answer_here, fits_back, lowers_seen, row_level_seen}
 use Rattle.worker_pass.proofs.updating.lower_to_row_level.Goals as goal

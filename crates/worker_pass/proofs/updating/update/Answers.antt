@@ -1,4 +1,4 @@
-use Rattle.std.proofs.Common.{◌≡◌, sym, subst, ◌∙◌}
+use Rattle.std.proofs.Common.{sym, subst, ◌∙◌}
 use Rattle.level_table.specs.Levels.{IsNumber, Table}
 use Rattle.worker_pass.specs.Updates.{IsUpdated}
 use Rattle.worker_pass.proofs.Rows.{updated_at}

@@ -1,6 +1,4 @@
-use Rattle.std.proofs.Common.{◌≡◌, List, sym, ap, subst, ◌∙◌, length, arith}
-use Rattle.game_model.specs.Game.{DynamicGame}
-use Rattle.level_table.specs.declared.reason.Note.{Note}
+use Rattle.std.proofs.Common.{◌≡◌, sym, subst, ◌∙◌, arith}
 use Rattle.level_table.specs.Levels.{Table, levels_in}
 use Rattle.level_table.specs.Notes.{HasRoomFor}
 use Rattle.level_table.specs.Problem.{Problem}
