@@ -41,8 +41,8 @@ overflow_mul-b c =
     let i = c.args.by.now.player in
     let ok = c.game.ensures.is_problem in
     let inside : c.loop-b.b < slice_index (counts p.game s) i = omega (arith, c.strategies-b-end.ensures ∙ ap (λ g. slice_index (counts g s) i) c.game-2.ensures.game, c.loop-b-test.true) in
-    let step : c.args.first + c.loop-b.b * c.stride_of-stride.result ≡ deviation_at p.game s c.args.first i c.loop-b.b =
-    place_by p.game s c.args.first i c.loop-b.b c.stride_of-stride.result ok.game c.requires.state c.requires.profile c.requires.player inside c.requires.begins (c.stride_of-stride.ensures ∙ ap (λ g. profile_count (take i (counts g s))) c.game.ensures.game) in
+    let step : c.args.first + c.loop-b.b * c.args.by.now.stride ≡ deviation_at p.game s c.args.first i c.loop-b.b =
+    place_by p.game s c.args.first i c.loop-b.b c.args.by.now.stride ok.game c.requires.state c.requires.profile c.requires.player inside c.requires.begins c.requires.from.stride in
     omega (arith, step, place_below p.game s c.args.first i c.loop-b.b ok.game c.requires.state c.requires.profile c.requires.player inside, few_profiles p.game s ok.game c.requires.state)
 
 pub overflow_add-first : goal.overflow_add-first
@@ -52,8 +52,8 @@ overflow_add-first c =
     let i = c.args.by.now.player in
     let ok = c.game.ensures.is_problem in
     let inside : c.loop-b.b < slice_index (counts p.game s) i = omega (arith, c.strategies-b-end.ensures ∙ ap (λ g. slice_index (counts g s) i) c.game-2.ensures.game, c.loop-b-test.true) in
-    let step : c.args.first + c.loop-b.b * c.stride_of-stride.result ≡ deviation_at p.game s c.args.first i c.loop-b.b =
-    place_by p.game s c.args.first i c.loop-b.b c.stride_of-stride.result ok.game c.requires.state c.requires.profile c.requires.player inside c.requires.begins (c.stride_of-stride.ensures ∙ ap (λ g. profile_count (take i (counts g s))) c.game.ensures.game) in
+    let step : c.args.first + c.loop-b.b * c.args.by.now.stride ≡ deviation_at p.game s c.args.first i c.loop-b.b =
+    place_by p.game s c.args.first i c.loop-b.b c.args.by.now.stride ok.game c.requires.state c.requires.profile c.requires.player inside c.requires.begins c.requires.from.stride in
     omega (arith, step, place_below p.game s c.args.first i c.loop-b.b ok.game c.requires.state c.requires.profile c.requires.player inside, few_profiles p.game s ok.game c.requires.state)
 
 pub term-requires-in-loop-b-clause-profile : goal.term-requires-in-loop-b-clause-profile
@@ -63,8 +63,8 @@ term-requires-in-loop-b-clause-profile c =
     let i = c.args.by.now.player in
     let ok = c.game.ensures.is_problem in
     let inside : c.loop-b.b < slice_index (counts p.game s) i = omega (arith, c.strategies-b-end.ensures ∙ ap (λ g. slice_index (counts g s) i) c.game-2.ensures.game, c.loop-b-test.true) in
-    let step : c.args.first + c.loop-b.b * c.stride_of-stride.result ≡ deviation_at p.game s c.args.first i c.loop-b.b =
-    place_by p.game s c.args.first i c.loop-b.b c.stride_of-stride.result ok.game c.requires.state c.requires.profile c.requires.player inside c.requires.begins (c.stride_of-stride.ensures ∙ ap (λ g. profile_count (take i (counts g s))) c.game.ensures.game) in
+    let step : c.args.first + c.loop-b.b * c.args.by.now.stride ≡ deviation_at p.game s c.args.first i c.loop-b.b =
+    place_by p.game s c.args.first i c.loop-b.b c.args.by.now.stride ok.game c.requires.state c.requires.profile c.requires.player inside c.requires.begins c.requires.from.stride in
     rw step (place_below p.game s c.args.first i c.loop-b.b ok.game c.requires.state c.requires.profile c.requires.player inside)
 
 pub returns-in_err-term-2-clause-none : goal.returns-in_err-term-2-clause-none
@@ -75,8 +75,8 @@ returns-in_err-term-2-clause-none c =
     let i = c.args.by.now.player in
     let ok = c.game.ensures.is_problem in
     let inside : c.loop-b.b < slice_index (counts p.game s) i = omega (arith, c.strategies-b-end.ensures ∙ ap (λ g. slice_index (counts g s) i) c.game-2.ensures.game, c.loop-b-test.true) in
-    let step : c.args.first + c.loop-b.b * c.stride_of-stride.result ≡ deviation_at p.game s c.args.first i c.loop-b.b =
-    place_by p.game s c.args.first i c.loop-b.b c.stride_of-stride.result ok.game c.requires.state c.requires.profile c.requires.player inside c.requires.begins (c.stride_of-stride.ensures ∙ ap (λ g. profile_count (take i (counts g s))) c.game.ensures.game) in
+    let step : c.args.first + c.loop-b.b * c.args.by.now.stride ≡ deviation_at p.game s c.args.first i c.loop-b.b =
+    place_by p.game s c.args.first i c.loop-b.b c.args.by.now.stride ok.game c.requires.state c.requires.profile c.requires.player inside c.requires.begins c.requires.from.stride in
     for_none c.from_residual-in_err-term-2.result (IsKnownLine p t s c.args.first i → ⊥)
     (λ h. c.in_err-term-2.ensures.none (subst (λ m. IsKnown p t (successor p.game s m)) (sym step) (h c.loop-b.b inside)))
 
@@ -88,8 +88,8 @@ loop-b-preserved c =
     let i = c.args.by.now.player in
     let ok = c.game.ensures.is_problem in
     let inside : c.loop-b.b < slice_index (counts p.game s) i = omega (arith, c.strategies-b-end.ensures ∙ ap (λ g. slice_index (counts g s) i) c.game-2.ensures.game, c.loop-b-test.true) in
-    let step : c.args.first + c.loop-b.b * c.stride_of-stride.result ≡ deviation_at p.game s c.args.first i c.loop-b.b =
-    place_by p.game s c.args.first i c.loop-b.b c.stride_of-stride.result ok.game c.requires.state c.requires.profile c.requires.player inside c.requires.begins (c.stride_of-stride.ensures ∙ ap (λ g. profile_count (take i (counts g s))) c.game.ensures.game) in
+    let step : c.args.first + c.loop-b.b * c.args.by.now.stride ≡ deviation_at p.game s c.args.first i c.loop-b.b =
+    place_by p.game s c.args.first i c.loop-b.b c.args.by.now.stride ok.game c.requires.state c.requires.profile c.requires.player inside c.requires.begins c.requires.from.stride in
     let x : ℤ = c.in_ok-term-2.field-0 in
     let is : W x ≡ x = kept x (2 ^ 61) c.in_ok-term-2.ensures.small (lit< tt) in
     line_more p t s c.args.first i c.loop-b.b c.loop-b.line c.lowered-line.result (W x) c.loop-b.invariant
