@@ -1,5 +1,5 @@
 -- Lines of profiles: what they ask, and what gives the sides of each of their profiles.
-use Rattle.std.proofs.Common.{◌≡◌, ◌≢◌, inl, inr, ℕ, ◌+◌, ◌-◌, ◌*◌, ◌/◌, ◌%◌, ◌^◌, ◌<◌, ◌≤◌, List, [], ◌∷◌, ◌++◌, length, refl, sym, ap, ◌∙◌, subst, arith, lit<, take, below_more, FitsSigned}
+use Rattle.std.proofs.Common.{◌≡◌, inl, inr, ℕ, ◌+◌, ◌-◌, ◌*◌, ◌/◌, ◌%◌, ◌^◌, ◌<◌, ◌≤◌, List, [], ◌∷◌, ◌++◌, length, refl, sym, ap, ◌∙◌, subst, arith, lit<, take, below_more, FitsSigned}
 use Rattle.std.specs.Prelude.{ℤ, pos, ◌+ℤ◌, ◌-ℤ◌, ◌*ℤ◌, ◌≤ℤ◌, ◌<ℤ◌, Option, Some, None, IfNone, slice_index, slice_index_or}
 use Rattle.std.specs.Int.{w64}
 use Rattle.std.specs.Int.RustNames.{unsigned_abs}
@@ -11,21 +11,20 @@ use Rattle.std.proofs.Math.Nat.{div-le_self, mul-le-mul}
 use Rattle.std.proofs.Math.Pow.{pow_mono}
 use Rattle.exact_algebra.specs.Poly.{var, ◌⊖◌, ◌⊗◌}
 use Rattle.exact_algebra.proofs.Normal.{ring}
-use Rattle.exact_algebra.proofs.Order.{abs_difference, abs_product, abs_sum, at_most_trans, below_at_most_trans}
-use Rattle.game_model.specs.Game.{DynamicGame, IsGame, IsState, IsDeviation, states, counts, profile_count, payoff_at, strategy_at, deviation_at, reached, successor}
+use Rattle.exact_algebra.proofs.Order.{abs_difference, abs_product, abs_sum, below_at_most_trans}
+use Rattle.game_model.specs.Game.{DynamicGame, IsGame, IsState, states, counts, profile_count, payoff_at, strategy_at, deviation_at, reached, successor}
 use Rattle.game_model.proofs.Profiles.{Moves, strategy_below}
 use Rattle.level_table.specs.declared.level.Level.{Level}
 use Rattle.level_table.specs.declared.level.Level.TheVariants.{Empty, At}
-use Rattle.level_table.specs.Problem.{Problem, IsProblem, discount_at, fineness, plus_axis, minus_axis, gain}
+use Rattle.level_table.specs.Problem.{Problem, IsProblem, discount_at, fineness, minus_axis, gain}
 use Rattle.level_table.specs.Levels.{Levels}
-use Rattle.level_table.specs.Reasons.{AreKnown, IsGainRow, IsKnown}
+use Rattle.level_table.specs.Reasons.{AreKnown, IsKnown}
 use Rattle.level_table.specs.Tables.{HasSmallOpening}
 use Rattle.level_table.proofs.Sizes.{base_small, payoff_small}
 use Rattle.bound_laws.proofs.Places.{each_positive}
 use Rattle.set_operator.specs.Asked.{EachReachKnown, gain_unit}
-use Rattle.set_operator.specs.Boxes.{IsSide, IsSource}
+use Rattle.set_operator.specs.Boxes.{IsSource}
 use Rattle.set_operator.specs.Lines.{AreAll, AreAsks, IsKnownLine, IsLine, IsLineBelow, IsLineOf, IsTerm, worth}
-use Rattle.set_operator.specs.declared.boxes.Side.{Side}
 use Rattle.set_operator.specs.declared.lines.Asks.{Asks}
 use Rattle.set_operator.specs.declared.lines.Line.{Line}
 use Rattle.set_operator.proofs.Openings.{payoff_scaled}

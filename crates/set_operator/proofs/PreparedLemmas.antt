@@ -1,6 +1,6 @@
 -- What is ready under a table stays ready where the levels of the axes stay, and the lesser of a level and a row level.
-use Rattle.std.proofs.Common.{◌≡◌, ℕ, ◌*◌, ◌<◌, [], ◌∷◌, length, sym, ◌∙◌, ap, subst, arith, inl, inr, ⊎_elim, refl}
-use Rattle.std.specs.Prelude.{ℤ, pos, ◌-ℤ◌, ◌*ℤ◌, ◌≤ℤ◌, ◌<ℤ◌, Bool, IsTrue, ◌↔◌, List, Option, Some, None, slice_index_or}
+use Rattle.std.proofs.Common.{◌≡◌, ℕ, ◌<◌, [], ◌∷◌, sym, ◌∙◌, ap, arith, ⊎_elim, refl}
+use Rattle.std.specs.Prelude.{ℤ, pos, ◌-ℤ◌, ◌*ℤ◌, ◌≤ℤ◌, ◌<ℤ◌, Option, Some, None, slice_index_or}
 use Rattle.std.specs.Int.{int_min}
 use Rattle.std.proofs.lemmas.Int.{ints, clamps}
 use Rattle.exact_algebra.specs.Poly.{var, lit, ◌⊖◌, ◌⊗◌}
@@ -9,15 +9,15 @@ use Rattle.exact_algebra.proofs.Order.{below_at_most_trans, below_from_times, pr
 use Rattle.game_model.specs.Game.{states, counts, profile_count, successor, reached, IsDeviation}
 use Rattle.level_table.specs.declared.level.Level.{Level}
 use Rattle.level_table.specs.declared.level.Level.TheVariants.{At, Empty}
-use Rattle.level_table.specs.Problem.{Problem, IsProblem, direction_count, plus_axis, minus_axis, gain}
-use Rattle.level_table.specs.Levels.{Levels, IsNumber, IsRow}
+use Rattle.level_table.specs.Problem.{Problem, IsProblem, plus_axis, minus_axis}
+use Rattle.level_table.specs.Levels.{Levels}
 use Rattle.level_table.specs.Operator.{HasAdmissible, IsRowLevel, value, value_unit}
 use Rattle.level_table.specs.Reasons.{AreKnown, IsGainRow, IsKnown}
 use Rattle.bound_laws.proofs.Operator.{row_level_is_unique}
 use Rattle.bound_laws.proofs.Places.{minus_axis_known, next_state, plus_axis_known, reached_state, q_positive}
 use Rattle.set_operator.specs.declared.best.Best.{Best}
 use Rattle.set_operator.specs.declared.boxes.ProfileBox.{ProfileBox}
-use Rattle.set_operator.specs.Boxes.{AreFlags, IsBoxOf, IsSide, IsSource, point_of, side_at}
+use Rattle.set_operator.specs.Boxes.{IsBoxOf, IsSource, point_of, side_at}
 use Rattle.set_operator.specs.Prepared.{IsBoxAt, IsPrepared, KeepsAxes, PreparedState}
 use Rattle.set_operator.specs.Search.{IsCeilingOf, IsLargestBelow, IsLeader}
 use Rattle.set_operator.proofs.SearchLemmas.{row_level_of}

@@ -1,9 +1,7 @@
 -- What the operator answers for a row.
-use Rattle.std.specs.Prelude.{◌≡◌, ◌⊎◌, ℕ, ◌^◌, ◌<◌, ◌≤◌, List, [], All, ℤ, pos, ◌≤ℤ◌, Option, Some, None}
-use Rattle.std.specs.Int.{int_min}
+use Rattle.std.specs.Prelude.{◌≡◌, ℕ, ◌^◌, ◌≤◌, List, [], All, ℤ, pos, ◌≤ℤ◌}
 use Rattle.std.specs.Int.RustNames.{unsigned_abs}
 use Rattle.pay_frac.specs.Ratio.{Ratio, IsLowest, Equals}
-use Rattle.level_table.specs.declared.level.Level.{Level}
 use Rattle.level_table.specs.declared.level.Level.TheVariants as levels
 use Rattle.level_table.specs.declared.reason.Reason.{Reason}
 use Rattle.level_table.specs.Problem.{Problem}

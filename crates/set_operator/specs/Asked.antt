@@ -1,7 +1,7 @@
 -- The deviations of one player from a profile, and what they ask of the part that follows it.
 use Rattle.std.specs.Prelude.{◌≡◌, ℕ, ◌+◌, ◌-◌, ◌*◌, ◌/◌, ◌^◌, ◌<◌, ◌≤◌, slice_index, ℤ, pos, ◌-ℤ◌, ◌≤ℤ◌, ◌<ℤ◌, Option, Some, None}
 use Rattle.std.specs.Int.RustNames.{unsigned_abs}
-use Rattle.game_model.specs.Game.{states, counts, profile_count, payoff_at, strategy_at, successor, deviation_at, reached, IsDeviation}
+use Rattle.game_model.specs.Game.{counts, payoff_at, strategy_at, successor, deviation_at, reached, IsDeviation}
 use Rattle.level_table.specs.declared.level.Level.TheVariants.{At}
 use Rattle.level_table.specs.Problem.{Problem, discount_at, fineness, plus_axis, minus_axis, gain}
 use Rattle.level_table.specs.Levels.{Levels}

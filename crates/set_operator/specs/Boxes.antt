@@ -1,7 +1,7 @@
 -- What the levels leave of each player's part of what follows a profile: the half-planes of the axes and the gains of deviations, folded into a box.
-use Rattle.std.specs.Prelude.{◌≡◌, ◌↔◌, Bool, false, IsTrue, ℕ, ◌-◌, ◌*◌, ◌^◌, ◌<◌, ◌≤◌, List, [], ◌∷◌, slice_index_or, slice_index, ℤ, pos, ◌-ℤ◌, ◌*ℤ◌, ◌≤ℤ◌, ◌<ℤ◌, Option, Some, None}
+use Rattle.std.specs.Prelude.{◌≡◌, ◌↔◌, Bool, false, IsTrue, ℕ, ◌-◌, ◌*◌, ◌^◌, ◌<◌, ◌≤◌, List, slice_index_or, ℤ, pos, ◌-ℤ◌, ◌*ℤ◌, ◌≤ℤ◌, ◌<ℤ◌, Option, Some, None}
 use Rattle.std.specs.Int.RustNames.{unsigned_abs}
-use Rattle.game_model.specs.Game.{DynamicGame, states, counts, profile_count, payoff_at, successor, reached, IsDeviation}
+use Rattle.game_model.specs.Game.{states, counts, profile_count, payoff_at, successor, reached, IsDeviation}
 use Rattle.level_table.specs.declared.level.Level.TheVariants.{At}
 use Rattle.level_table.specs.Problem.{Problem, discount_at, fineness, plus_axis, minus_axis, gain}
 use Rattle.level_table.specs.Levels.{Levels}

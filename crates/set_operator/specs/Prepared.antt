@@ -1,5 +1,5 @@
 -- A state made ready: what each profile's program is under a table of levels.
-use Rattle.std.specs.Prelude.{◌≡◌, ◌↔◌, Bool, IsTrue, ℕ, ◌*◌, ◌<◌, List, length, slice_index_or, ℤ, Option, Some, None}
+use Rattle.std.specs.Prelude.{◌≡◌, ◌↔◌, Bool, ℕ, ◌*◌, ◌<◌, List, length, slice_index_or, ℤ, Option, Some, None}
 use Rattle.std.specs.Int.{int_min}
 use Rattle.game_model.specs.Game.{counts, profile_count, states}
 use Rattle.level_table.specs.declared.level.Level.TheVariants.{Empty, At}

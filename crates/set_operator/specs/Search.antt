@@ -1,5 +1,5 @@
 -- The largest value of a profile, and the first profile that has the largest of all.
-use Rattle.std.specs.Prelude.{◌≡◌, ◌⊎◌, ℕ, ◌^◌, ◌<◌, ◌≤◌, List, All, ℤ, pos, ◌-ℤ◌, ◌*ℤ◌, ◌≤ℤ◌, ◌<ℤ◌, Option, Some, None}
+use Rattle.std.specs.Prelude.{◌≡◌, ◌⊎◌, ℕ, ◌^◌, ◌<◌, ◌≤◌, All, ℤ, pos, ◌-ℤ◌, ◌*ℤ◌, ◌≤ℤ◌, ◌<ℤ◌, Option, Some, None}
 use Rattle.std.specs.Int.RustNames.{unsigned_abs}
 use Rattle.exact_algebra.specs.Quotients.{IsCeiling}
 use Rattle.game_model.specs.Game.{counts, profile_count}
@@ -7,7 +7,6 @@ use Rattle.level_table.specs.Problem.{Problem}
 use Rattle.level_table.specs.Levels.{Levels}
 use Rattle.level_table.specs.Operator.{Admissible, value}
 use Rattle.level_table.specs.Operator.{Fractions}
-use Rattle.lp_core.specs.declared.Point.{Point}
 use Rattle.set_operator.specs.Boxes.{point_of}
 use Rattle.set_operator.specs.declared.best.Best.{Best}
 

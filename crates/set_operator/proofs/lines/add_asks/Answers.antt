@@ -1,5 +1,5 @@
 -- one profile more
-use Rattle.std.proofs.Common.{◌≡◌, ◌+◌, ◌*◌, ◌<◌, ◌≤◌, ◌++◌, ◌∷◌, [], ◌∙◌, arith, ap, subst, sym, length}
+use Rattle.std.proofs.Common.{◌≡◌, ◌<◌, ◌++◌, ◌∷◌, [], ◌∙◌, arith, ap, subst, sym, length}
 use Rattle.std.proofs.lemmas.List.{length_push}
 use Rattle.game_model.specs.Game.{counts, profile_count}
 use Rattle.level_table.specs.Levels.{levels_in}

@@ -1,5 +1,3 @@
-use Rattle.std.proofs.Common.{◌≡◌, subst}
-use Rattle.game_model.specs.Game.{successor}
 use Rattle.level_table.specs.Levels.{levels_in}
 use Rattle.set_operator.proofs.LineLemmas.{next_by_line}
 use Rattle.set_operator.proofs.lines.asks_at.Goals as goal

@@ -1,6 +1,6 @@
 use Rattle.std.proofs.Common.{◌≡◌, ◌∙◌}
 use Rattle.game_model.specs.Game.{payoff_at}
-use Rattle.set_operator.proofs.LineLemmas.{IsCounted, counted_by, counted_code_small, counted_is, inner_fits, outer_fits, worth_by}
+use Rattle.set_operator.proofs.LineLemmas.{counted_by, counted_code_small, counted_is, inner_fits, outer_fits, worth_by}
 use Rattle.set_operator.proofs.lines.counted.Goals as goal
 
 pub overflow_mul-result : goal.overflow_mul-result

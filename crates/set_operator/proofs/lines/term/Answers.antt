@@ -3,7 +3,6 @@ use Rattle.game_model.specs.Game.{successor}
 use Rattle.level_table.specs.declared.level.Level.TheVariants.{At}
 use Rattle.level_table.specs.Levels.{levels_in}
 use Rattle.level_table.specs.Problem.{minus_axis}
-use Rattle.set_operator.specs.Lines.{worth}
 use Rattle.set_operator.proofs.LineLemmas.{term_is}
 use Rattle.set_operator.proofs.lines.term.Goals as goal
 

@@ -1,6 +1,4 @@
-use Rattle.std.proofs.Common.{subst}
 use Rattle.level_table.specs.Levels.{levels_in}
-use Rattle.set_operator.specs.Answers.{IsRowAnswer}
 use Rattle.set_operator.proofs.SearchLemmas.{answer_is_empty}
 use Rattle.set_operator.proofs.row.row_level.Goals as goal
 

@@ -1,5 +1,5 @@
 -- the answer of the first best profile
-use Rattle.std.proofs.Common.{◌≡◌, subst, sym, rules, to_z, of_z, FitsSigned}
+use Rattle.std.proofs.Common.{subst, sym, rules, FitsSigned}
 use Rattle.std.specs.Int.{w64}
 use Rattle.std.specs.Prelude.{Some}
 use Rattle.std.proofs.lemmas.Int.{to_z-of_z}

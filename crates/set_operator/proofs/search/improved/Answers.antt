@@ -1,7 +1,7 @@
 -- a profile that wins, one that doesn't, and one that admits nothing
 use Rattle.std.proofs.Common.{arith, subst, to_z, of_z}
 use Rattle.std.specs.Int.{w128}
-use Rattle.std.specs.Prelude.{pos, ◌*ℤ◌, ◌<ℤ◌, ◌≤ℤ◌, Some}
+use Rattle.std.specs.Prelude.{◌*ℤ◌, ◌<ℤ◌, ◌≤ℤ◌, Some}
 use Rattle.std.proofs.lemmas.Bool.{iff_false}
 use Rattle.level_table.specs.Levels.{levels_in}
 use Rattle.set_operator.proofs.SearchLemmas.{greater_is_earliest, kept_103, kept_den, not_below, so_far_greater, so_far_lower, so_far_skip}

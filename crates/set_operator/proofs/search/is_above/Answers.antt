@@ -1,5 +1,5 @@
 -- the products fit
-use Rattle.std.proofs.Common.{◌≡◌, ◌^◌, ◌≤◌, arith, rules, lit<, pos, ◌*ℤ◌, to_z, of_z, FitsSigned}
+use Rattle.std.proofs.Common.{◌^◌, ◌≤◌, arith, rules, lit<}
 use Rattle.std.specs.Int.{w128}
 use Rattle.std.specs.Int.RustNames.{unsigned_abs}
 use Rattle.std.proofs.lemmas.Int.{ints}

@@ -1,5 +1,4 @@
-use Rattle.std.proofs.Common.{◌≡◌, ◌+◌, sym, subst}
-use Rattle.std.specs.Prelude.{IsTrue, Some}
+use Rattle.std.proofs.Common.{◌+◌, sym, subst}
 use Rattle.level_table.specs.Levels.{levels_in}
 use Rattle.set_operator.specs.Search.{IsLargestSoFar}
 use Rattle.set_operator.proofs.SearchLemmas.{box_there, not_both, so_far_none_above, so_far_skip, unknown_admits_nothing}

@@ -1,9 +1,6 @@
-use Rattle.std.proofs.Common.{arith, subst}
-use Rattle.std.specs.Prelude.{pos, ◌-ℤ◌, ◌*ℤ◌, ◌<ℤ◌}
-use Rattle.std.specs.Int.{w64}
-use Rattle.std.proofs.lemmas.Int.{to_z-of_z}
+use Rattle.std.proofs.Common.{arith}
 use Rattle.level_table.specs.Levels.{levels_in}
-use Rattle.set_operator.proofs.SearchLemmas.{leader_reaches, leaders, no_leader}
+use Rattle.set_operator.proofs.SearchLemmas.{leaders, no_leader}
 use Rattle.set_operator.proofs.search.leader.Goals as goal
 
 pub returns-clause-none : goal.returns-clause-none

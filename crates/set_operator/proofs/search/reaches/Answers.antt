@@ -1,7 +1,7 @@
 -- the product fits
-use Rattle.std.proofs.Common.{◌≡◌, ◌∙◌, rules, ap, pos, to_z, of_z, FitsSigned}
+use Rattle.std.proofs.Common.{◌≡◌, ◌∙◌, ap, pos}
 use Rattle.std.specs.Prelude.{◌-ℤ◌, ◌*ℤ◌}
-use Rattle.std.specs.Int.{w64, w128}
+use Rattle.std.specs.Int.{w64}
 use Rattle.std.proofs.lemmas.Int.{to_z-of_z}
 use Rattle.set_operator.proofs.SearchLemmas.{kept_103, lt_test, reach_by_code}
 use Rattle.set_operator.proofs.search.reaches.Goals as goal
