@@ -125,6 +125,7 @@ fn line_of(
     ensures some { IfSome result (IsLine p.now (levels_in levels.now) by.now.state first by.now.player) }
     ensures none { IfNone result (IsKnownLine p.now (levels_in levels.now) by.now.state first by.now.player → ⊥) }
 {
+    p.rules();
     let mut line = Line {
         least: term(p, levels, known, by, first)?,
         first: 0,
