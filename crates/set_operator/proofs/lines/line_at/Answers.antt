@@ -1,4 +1,4 @@
-use Rattle.std.proofs.Common.{◌≡◌, ◌-◌, ◌∙◌, arith, ap, refl, subst, length, take}
+use Rattle.std.proofs.Common.{◌≡◌, ◌-◌, ◌∙◌, arith, ap, refl, subst, length}
 use Rattle.std.specs.Prelude.{None, Some, slice_index_or}
 use Rattle.game_model.specs.Game.{counts, profile_count, strategy_at}
 use Rattle.level_table.specs.Levels.{levels_in}

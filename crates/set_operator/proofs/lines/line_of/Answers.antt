@@ -1,7 +1,7 @@
 -- one strategy more
-use Rattle.std.proofs.Common.{◌≡◌, ◌+◌, ◌*◌, ◌^◌, ◌<◌, ◌∙◌, arith, ap, subst, sym, lit<, take, ℤ}
+use Rattle.std.proofs.Common.{◌≡◌, ◌+◌, ◌*◌, ◌^◌, ◌<◌, ◌∙◌, arith, ap, subst, sym, lit<, ℤ}
 use Rattle.std.specs.Prelude.{slice_index}
-use Rattle.game_model.specs.Game.{counts, profile_count, deviation_at, successor}
+use Rattle.game_model.specs.Game.{counts, deviation_at, successor}
 use Rattle.level_table.specs.Levels.{levels_in}
 use Rattle.level_table.specs.Reasons.{IsKnown}
 use Rattle.set_operator.specs.Lines.{IsKnownLine, IsLineBelow, IsTerm}

@@ -1,4 +1,3 @@
-use Rattle.std.proofs.Common.{arith}
 use Rattle.set_operator.proofs.Mosts.{no_spread}
 use Rattle.set_operator.proofs.most.spread_by.Goals as goal
 
