@@ -1,5 +1,5 @@
 -- The profiles that differ in one player's strategy alone, and what they ask of the player's part.
-use Rattle.std.specs.Prelude.{◌≡◌, ℕ, ◌-◌, ◌*◌, ◌/◌, ◌%◌, ◌^◌, ◌<◌, ◌≤◌, List, length, slice_index, slice_index_or, ℤ, pos, ◌-ℤ◌, ◌*ℤ◌, ◌≤ℤ◌, ◌<ℤ◌, Option, Some, None}
+use Rattle.std.specs.Prelude.{◌≡◌, ℕ, ◌-◌, ◌*◌, ◌/◌, ◌%◌, ◌^◌, ◌<◌, ◌≤◌, List, length, slice_index, slice_index_or, take, ℤ, pos, ◌-ℤ◌, ◌*ℤ◌, ◌≤ℤ◌, ◌<ℤ◌, Option, Some, None}
 use Rattle.std.specs.Int.RustNames.{unsigned_abs}
 use Rattle.game_model.specs.Game.{counts, profile_count, payoff_at, deviation_at, reached, successor}
 use Rattle.level_table.specs.declared.level.Level.TheVariants.{At}
@@ -19,6 +19,7 @@ worth p s a i = pos ((p.game.q - discount_at p i) * (p.game.base / discount_at p
 pub record IsWorth (p : Problem) (s i : ℕ) (by : Worth) : Type 0 where
   pub state : by.state ≡ s
   pub player : by.player ≡ i
+  pub stride : by.stride ≡ profile_count (take i (counts p.game s))
   pub weight : by.weight ≡ pos (p.game.q - discount_at p i)
   pub unit : by.unit ≡ pos (gain_unit p i)
 

@@ -1,5 +1,5 @@
 -- The program of a profile: rows over the payoffs that may follow it, and what a direction makes of them.
-use Rattle.std.specs.Prelude.{◌≡◌, ℕ, ◌-◌, ◌*◌, ◌^◌, ◌<◌, ◌≤◌, List, [], ◌∷◌, length, All, ℤ, pos, neg_ℤ, ◌*ℤ◌, ◌≤ℤ◌, ◌<ℤ◌}
+use Rattle.std.specs.Prelude.{◌≡◌, IsTrue, ℕ, ◌-◌, ◌*◌, ◌^◌, ◌<◌, ◌≤◌, List, [], ◌∷◌, length, All, ℤ, pos, neg_ℤ, ◌*ℤ◌, ◌≤ℤ◌, ◌<ℤ◌}
 use Rattle.std.specs.Int.RustNames.{unsigned_abs}
 use Rattle.game_model.specs.SelfGeneration.{part, sum_below}
 use Rattle.level_table.specs.declared.level.Level.TheVariants.{At}
@@ -11,6 +11,8 @@ use Rattle.level_table.specs.Reasons.{IsProgramRow}
 use Rattle.lp_cert.specs.Program.{Program, IsProgram, row_at}
 use Rattle.set_operator.specs.declared.boxes.Side.{Side}
 use Rattle.set_operator.specs.declared.boxes.ProfileBox.{ProfileBox}
+use Rattle.set_operator.specs.declared.most.Discounts.{Discounts}
+use Rattle.set_operator.specs.declared.most.Range.{Range}
 use Rattle.set_operator.specs.Boxes.{side_at, stage_at}
 
 -- The first m rows: row k has direction k as its coefficients. Those of the axes have the sides of the box, each other the next state's level.
@@ -76,3 +78,15 @@ IsMostSpread p b k least most = (y : List ℤ) (den : ℤ) → pos 0 <ℤ den �
 -- no discount numerator is less
 abbrev pub IsLeastNumerator : Problem → ℕ → Type 0
 IsLeastNumerator p least = (i : ℕ) → i < p.game.players → least ≤ discount_at p i
+
+-- the least and the greatest discount numerator
+pub record IsRange (p : Problem) (range : Range) : Type 0 where
+  pub least : IsLeastNumerator p range.least
+  pub most : (i : ℕ) → i < p.game.players → discount_at p i ≤ range.most
+  pub small : range.least ≤ 1024
+
+-- the least discount numerator, and whether each is equal to it
+pub record AreDiscounts (p : Problem) (discounts : Discounts) : Type 0 where
+  pub least : IsLeastNumerator p discounts.least
+  pub small : discounts.least ≤ 1024
+  pub same : IsTrue discounts.same → (i : ℕ) → i < p.game.players → discount_at p i ≡ discounts.least

@@ -8,10 +8,11 @@ ghost use Rattle.level_table.specs.Problem.{direction_count};
 ghost use Rattle.level_table.specs.Reasons.{IsProgramCertificate};
 ghost use Rattle.level_table.specs.Tables.{IsSmallTable};
 ghost use Rattle.set_operator.specs.Boxes.{IsBoxOf};
+ghost use Rattle.set_operator.specs.Program.{AreDiscounts};
 ghost use Rattle.set_operator.specs.Search.{IsBestOf, IsMost};
 
 use crate::boxes::ProfileBox;
-use crate::most::{least_numerator, most_from, spread_of};
+use crate::most::{Discounts, most_from, spread_by, spread_of};
 use crate::program::{
     fill_rows, items_of, number_at, objective_of, some_rows, stage_of, value_over,
 };
@@ -79,18 +80,25 @@ pub(crate) fn admits(p: &Problem, levels: &LevelTable, found: &ProfileBox, rows:
 }
 
 /// A number over q that no admissible value of the profile in direction `dir` is above, found without a program.
-pub(crate) fn most_value(p: &Problem, levels: &LevelTable, found: &ProfileBox, dir: u32) -> i128
+pub(crate) fn most_value(
+    p: &Problem,
+    levels: &LevelTable,
+    found: &ProfileBox,
+    dir: u32,
+    discounts: Discounts,
+) -> i128
     requires table { IsSmallTable p.now levels.now }
     requires sides { IsBoxOf p.now (levels_in levels.now) found.now }
     requires dir { dir < direction_count p.now }
+    requires discounts { AreDiscounts p.now discounts }
     ensures most { IsMost p.now (levels_in levels.now) found.now.state dir found.now.profile result }
     ensures small { unsigned_abs result ≤ 2 ^ 80 }
 {
     p.rules();
-    let least = least_numerator(p);
     let level = number_at(levels, found.next, dir);
     let stage = stage_of(p, found, dir);
-    most_from(least, level, stage, spread_of(p, found, dir, least))
+    let spread = spread_by(p, found, dir, discounts);
+    most_from(discounts.least, level, stage, spread)
 }
 
 /// Another number over q that no admissible value of the profile in direction `dir` is above, from the sides of its

@@ -31,18 +31,22 @@ pub(crate) struct Asks {
 struct Worth {
     state: u32,
     player: u32,
+    /// How far two profiles are apart that differ by one in the player's strategy.
+    stride: u32,
     weight: i64,
     unit: i64,
 }
 
 /// What player `i`'s payoffs count.
 fn worth_of(p: &Problem, state: u32, i: u32) -> Worth
+    requires state { state < states p.now.game }
     requires player { i < p.now.game.players }
     ensures { IsWorth p.now state i result }
 {
     Worth {
         state,
         player: i,
+        stride: stride_of(p.game(), state, i),
         weight: weight_of(p, i),
         unit: unit_of(p, i),
     }
@@ -121,13 +125,13 @@ fn line_of(
     ensures some { IfSome result (IsLine p.now (levels_in levels.now) by.now.state first by.now.player) }
     ensures none { IfNone result (IsKnownLine p.now (levels_in levels.now) by.now.state first by.now.player → ⊥) }
 {
-    let stride = stride_of(p.game(), by.state, by.player);
+    p.rules();
     let mut line = Line {
         least: term(p, levels, known, by, first)?,
         first: 0,
     };
     for b in 1..p.game().strategies(by.state, by.player) {
-        line = lowered(line, term(p, levels, known, by, first + b * stride)?, b);
+        line = lowered(line, term(p, levels, known, by, first + b * by.stride)?, b);
     }
     Some(line)
 }
@@ -156,8 +160,7 @@ fn line_at(
     if game.strategy_of(by.state, profile, by.player) == 0 {
         return line_of(p, levels, known, by, profile);
     }
-    let stride = stride_of(game, by.state, by.player) as usize;
-    match asks[asks.len() - stride] {
+    match asks[asks.len() - by.stride as usize] {
         Some(found) => Some(found.line),
         None => None,
     }

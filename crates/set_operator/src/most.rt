@@ -3,7 +3,7 @@
 ghost use Rattle.std.specs.Prelude.{◌≡◌, ◌^◌, ◌<◌, ◌≤◌, ℤ, pos, ◌+ℤ◌, ◌*ℤ◌, ◌<ℤ◌, ◌≤ℤ◌};
 ghost use Rattle.std.specs.Int.RustNames.{unsigned_abs};
 ghost use Rattle.level_table.specs.Problem.{direction_count, discount_at};
-ghost use Rattle.set_operator.specs.Program.{HasSmallSides, IsLeastNumerator, IsMostPart, IsMostSpread, IsWithin};
+ghost use Rattle.set_operator.specs.Program.{HasSmallSides, AreDiscounts, IsLeastNumerator, IsMostPart, IsMostSpread, IsRange, IsWithin};
 
 use crate::boxes::{ProfileBox, Side};
 use level_table::Problem;
@@ -19,17 +19,49 @@ fn numerator(p: &Problem, i: u32) -> u32
     numerator
 }
 
-/// The least discount numerator of the players.
-pub(crate) fn least_numerator(p: &Problem) -> u32
-    ensures least { IsLeastNumerator p.now result }
-    ensures small { result ≤ 1024 }
+/// The least discount numerator of the players, and whether all players have it.
+#[derive(Clone, Copy)]
+pub(crate) struct Discounts {
+    pub(crate) least: u32,
+    pub(crate) same: bool,
+}
+
+/// The least and the greatest discount numerator of the players.
+#[derive(Clone, Copy)]
+struct Range {
+    least: u32,
+    most: u32,
+}
+
+/// From the least to the greatest discount numerator of the players.
+fn range_of(p: &Problem) -> Range
+    ensures { IsRange p.now result }
 {
     p.rules();
-    let mut least = numerator(p, 0);
+    let first = numerator(p, 0);
+    let mut range = Range {
+        least: first,
+        most: first,
+    };
     for i in 1..p.players() {
-        least = least.min(numerator(p, i));
+        let here = numerator(p, i);
+        range = Range {
+            least: range.least.min(here),
+            most: range.most.max(here),
+        };
     }
-    least
+    range
+}
+
+/// What the players' discount numerators have in common.
+pub(crate) fn discounts_of(p: &Problem) -> Discounts
+    ensures { AreDiscounts p.now result }
+{
+    let range = range_of(p);
+    Discounts {
+        least: range.least,
+        same: range.least == range.most,
+    }
 }
 
 /// The most that a part within the sides counts, times `c`.
@@ -93,6 +125,21 @@ pub(crate) fn spread_of(p: &Problem, found: &ProfileBox, dir: u32, least: u32) -
     let first = spread_part(p, found, dir, least, 0);
     let second = spread_part(p, found, dir, least, 1);
     first + second + spread_part(p, found, dir, least, 2)
+}
+
+/// The most that all players' parts count beyond the least of their discount numerators: nothing where all are equal.
+pub(crate) fn spread_by(p: &Problem, found: &ProfileBox, dir: u32, discounts: Discounts) -> i128
+    requires dir { dir < direction_count p.now }
+    requires discounts { AreDiscounts p.now discounts }
+    requires small { HasSmallSides p.now found.now }
+    ensures most { IsMostSpread p.now found.now dir discounts.least result }
+    ensures bound { unsigned_abs result ≤ 2 ^ 76 }
+{
+    if discounts.same {
+        0
+    } else {
+        spread_of(p, found, dir, discounts.least)
+    }
 }
 
 /// The bound from the next state's level, the payoffs of the profile, and what discount factors that differ add.

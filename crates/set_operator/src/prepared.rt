@@ -18,6 +18,7 @@ use crate::best::{Best, admits, best_of};
 use crate::boxes::{ProfileBox, known_states};
 use crate::lesser::Lesser;
 use crate::lines::{Asks, fill_asks};
+use crate::most::discounts_of;
 use crate::program::some_rows;
 use crate::reasons::explain;
 use crate::row::RowAnswer;
@@ -97,6 +98,7 @@ impl Prepared {
         let row = Row {
             state: self.state,
             dir,
+            discounts: discounts_of(p),
         };
         let best = first_best(p, levels, row, &self.boxes);
         answer_of(p, levels, row, best)
@@ -123,6 +125,7 @@ impl Prepared {
         let row = Row {
             state: self.state,
             dir,
+            discounts: discounts_of(p),
         };
         let mut rows = some_rows();
         let start = best_at(p, levels, row, &self.boxes, first, &mut rows);

@@ -7,10 +7,12 @@ ghost use Rattle.level_table.specs.Problem.{direction_count, problem_of};
 ghost use Rattle.level_table.specs.Tables.{HasSmallOpening, IsSmallTable};
 ghost use Rattle.set_operator.specs.Answers.{AreAnswersReasons, IsRowAnswer};
 ghost use Rattle.set_operator.specs.Boxes.{AreFlags};
+ghost use Rattle.set_operator.specs.Program.{AreDiscounts};
 ghost use Rattle.set_operator.specs.Search.{IsEarliest, IsLargestSoFar};
 
 use crate::best::Best;
 use crate::boxes::{box_of, known_states};
+use crate::most::discounts_of;
 use crate::program::some_rows;
 use crate::reasons::explain;
 use crate::search::{Row, answer_of, try_profile};
@@ -82,7 +84,11 @@ pub fn row_level(
 {
     let p = Problem::new(game, dirs, grid);
     let known = known_states(&p, levels);
-    let row = Row { state, dir };
+    let row = Row {
+        state,
+        dir,
+        discounts: discounts_of(&p),
+    };
     let answer = answer_of(&p, levels, row, best_in_row(&p, levels, &known, row));
     match answer {
         RowAnswer::Level { .. } => reasons.clear(),
@@ -98,6 +104,7 @@ fn best_in_row(p: &Problem, levels: &LevelTable, known: &[bool; 64], row: Row) -
     requires known { AreFlags p.now (levels_in levels.now) known.now }
     requires state { row.state < states p.now.game }
     requires dir { row.dir < direction_count p.now }
+    requires discounts { AreDiscounts p.now row.discounts }
     ensures largest { IsLargestSoFar p.now (levels_in levels.now) row.state row.dir (profile_count (counts p.now.game row.state)) result }
     ensures earliest { IsEarliest p.now (levels_in levels.now) row.state row.dir result }
 {

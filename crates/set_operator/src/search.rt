@@ -9,10 +9,12 @@ ghost use Rattle.level_table.specs.Tables.{HasSmallOpening, IsSmallTable};
 ghost use Rattle.set_operator.specs.Answers.{IsRowAnswer};
 ghost use Rattle.set_operator.specs.Boxes.{IsBoxOf};
 ghost use Rattle.set_operator.specs.Prepared.{IsBoxAt};
+ghost use Rattle.set_operator.specs.Program.{AreDiscounts};
 ghost use Rattle.set_operator.specs.Search.{IsBestOf, IsCeilingOf, IsEarliest, IsLargestBelow, IsLargestSoFar, IsLeader, IsReached, IsSmallBest, HasNoneAbove};
 
 use crate::best::{Best, best_of, most_in_box, most_value};
 use crate::boxes::ProfileBox;
+use crate::most::Discounts;
 use crate::program::some_rows;
 use crate::row::RowAnswer;
 use level_table::{LevelTable, Problem};
@@ -24,6 +26,7 @@ use pay_frac::{Frac, ceil_div};
 pub(crate) struct Row {
     pub(crate) state: u32,
     pub(crate) dir: u32,
+    pub(crate) discounts: Discounts,
 }
 
 /// Whether `value / den` is greater than the value of a best, both over q.
@@ -38,14 +41,22 @@ pub(crate) fn is_above(value: i128, den: i128, best: &Best) -> bool
 }
 
 /// Whether the bounds of a profile's values that need no program let one of them be greater than a best.
-fn can_win(p: &Problem, levels: &LevelTable, program: &ProfileBox, dir: u32, best: &Best) -> bool
+fn can_win(
+    p: &Problem,
+    levels: &LevelTable,
+    program: &ProfileBox,
+    dir: u32,
+    discounts: Discounts,
+    best: &Best,
+) -> bool
     requires table { IsSmallTable p.now levels.now }
     requires of_profile { IsBoxOf p.now (levels_in levels.now) program.now }
     requires dir { dir < direction_count p.now }
+    requires discounts { AreDiscounts p.now discounts }
     requires best { IsSmallBest best.now }
     ensures { (IsTrue result → ⊥) → HasNoneAbove p.now (levels_in levels.now) program.now.state dir program.now.profile best.now }
 {
-    is_above(most_value(p, levels, program, dir), 1, best)
+    is_above(most_value(p, levels, program, dir, discounts), 1, best)
         && is_above(most_in_box(p, levels, program, dir), 1, best)
 }
 
@@ -61,6 +72,7 @@ fn is_passed_over(
     requires table { IsSmallTable p.now levels.now }
     requires at { IsBoxAt p.now (levels_in levels.now) row.state a program.now }
     requires dir { row.dir < direction_count p.now }
+    requires discounts { AreDiscounts p.now row.discounts }
     requires before { IsLargestSoFar p.now (levels_in levels.now) row.state row.dir a best.now }
     ensures { IsTrue result → IsLargestSoFar p.now (levels_in levels.now) row.state row.dir (a + 1) best.now }
 {
@@ -68,7 +80,7 @@ fn is_passed_over(
         None => true,
         Some(found) => match best {
             None => false,
-            Some(before) => !can_win(p, levels, found, row.dir, before),
+            Some(before) => !can_win(p, levels, found, row.dir, row.discounts, before),
         },
     }
 }
@@ -141,6 +153,7 @@ pub(crate) fn try_profile(
     requires table { IsSmallTable p.now levels.now }
     requires at { IsBoxAt p.now (levels_in levels.now) row.state a program.now }
     requires dir { row.dir < direction_count p.now }
+    requires discounts { AreDiscounts p.now row.discounts }
     requires before { IsLargestSoFar p.now (levels_in levels.now) row.state row.dir a best.old }
     ensures largest { IsLargestSoFar p.now (levels_in levels.now) row.state row.dir (a + 1) best.new }
     ensures earliest { IsEarliest p.now (levels_in levels.now) row.state row.dir best.old → IsEarliest p.now (levels_in levels.now) row.state row.dir best.new }
@@ -214,6 +227,7 @@ pub(crate) fn first_best(
 ) -> Option<Best>
     requires table { IsSmallTable p.now levels.now }
     requires dir { row.dir < direction_count p.now }
+    requires discounts { AreDiscounts p.now row.discounts }
     requires each { (a : ℕ) → a < length programs.now → IsBoxAt p.now (levels_in levels.now) row.state a (slice_index_or programs.now a None) }
     requires few { length programs.now < 2 ^ 32 }
     ensures largest { IsLargestSoFar p.now (levels_in levels.now) row.state row.dir (length programs.now) result }
@@ -259,6 +273,7 @@ pub(crate) fn leader(
 ) -> Option<Best>
     requires table { IsSmallTable p.now levels.now }
     requires dir { row.dir < direction_count p.now }
+    requires discounts { AreDiscounts p.now row.discounts }
     requires one_each { length programs.now ≡ profile_count (counts p.now.game row.state) }
     requires few { length programs.now < 2 ^ 32 }
     requires each { (a : ℕ) → a < length programs.now → IsBoxAt p.now (levels_in levels.now) row.state a (slice_index_or programs.now a None) }

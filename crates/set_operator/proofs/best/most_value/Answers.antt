@@ -11,11 +11,11 @@ use Rattle.set_operator.proofs.best.most_value.Goals as goal
 pub returns-clause-most : goal.returns-clause-most
 returns-clause-most c =
     let f1 : FitsSigned w128 c.most_from.result = record { sfits = c.most_from.type_inv } in
-    let f2 : FitsSigned w128 c.spread_of.result = record { sfits = c.spread_of.type_inv } in
+    let f2 : FitsSigned w128 c.spread_by-spread.result = record { sfits = c.spread_by-spread.type_inv } in
     let f3 : FitsSigned w128 c.stage_of-stage.result = record { sfits = c.stage_of-stage.type_inv } in
     let f4 : FitsSigned w64 c.number_at-level.result = record { sfits = c.number_at-level.type_inv } in
-    let is : c.most_from.result ≡ pos c.least_numerator-least.result *ℤ c.number_at-level.result +ℤ c.stage_of-stage.result +ℤ c.spread_of.result = simp to_z-of_z at c.most_from.ensures.value in
-    let e = is ∙ ap (λ s. pos c.least_numerator-least.result *ℤ c.number_at-level.result +ℤ s +ℤ c.spread_of.result) c.stage_of-stage.ensures.value in
+    let is : c.most_from.result ≡ pos c.args.discounts.least *ℤ c.number_at-level.result +ℤ c.stage_of-stage.result +ℤ c.spread_by-spread.result = simp to_z-of_z at c.most_from.ensures.value in
+    let e = is ∙ ap (λ s. pos c.args.discounts.least *ℤ c.number_at-level.result +ℤ s +ℤ c.spread_by-spread.result) c.stage_of-stage.ensures.value in
     λ z adm. simp to_z-of_z (at_most_along refl (ap (λ r. r *ℤ z.denominator) (sym e))
-    (at_most_all c.args.p.now (levels_in c.args.levels.now) c.args.found.now c.args.dir c.least_numerator-least.result c.number_at-level.result c.spread_of.result z c.rules.ensures c.requires.sides
-    c.least_numerator-least.ensures.least c.requires.dir c.number_at-level.ensures c.spread_of.ensures.most adm))
+    (at_most_all c.args.p.now (levels_in c.args.levels.now) c.args.found.now c.args.dir c.args.discounts.least c.number_at-level.result c.spread_by-spread.result z c.rules.ensures c.requires.sides
+    c.requires.discounts.least c.requires.dir c.number_at-level.ensures c.spread_by-spread.ensures.most adm))

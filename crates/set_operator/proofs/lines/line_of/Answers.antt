@@ -1,7 +1,7 @@
 -- one strategy more
-use Rattle.std.proofs.Common.{◌≡◌, ◌+◌, ◌*◌, ◌^◌, ◌<◌, ◌∙◌, arith, ap, subst, sym, lit<, take, ℤ}
+use Rattle.std.proofs.Common.{◌≡◌, ◌+◌, ◌*◌, ◌^◌, ◌<◌, ◌∙◌, arith, ap, subst, sym, lit<, ℤ}
 use Rattle.std.specs.Prelude.{slice_index}
-use Rattle.game_model.specs.Game.{counts, profile_count, deviation_at, successor}
+use Rattle.game_model.specs.Game.{counts, deviation_at, successor}
 use Rattle.level_table.specs.Levels.{levels_in}
 use Rattle.level_table.specs.Reasons.{IsKnown}
 use Rattle.set_operator.specs.Lines.{IsKnownLine, IsLineBelow, IsTerm}
@@ -16,7 +16,7 @@ returns-in_err-term-clause-none c =
     let t = levels_in c.args.levels.now in
     let s = c.args.by.now.state in
     let i = c.args.by.now.player in
-    let ok = c.game.ensures.is_problem in
+    let ok = c.rules.ensures in
     for_none c.from_residual.result (IsKnownLine p t s c.args.first i → ⊥)
     (λ h. c.in_err-term.ensures.none (subst (λ m. IsKnown p t (successor p.game s m)) (first_place p.game s c.args.first i ok.game c.requires.state c.requires.profile c.requires.player c.requires.begins) (h 0 (some_strategy p.game s i ok.game c.requires.state c.requires.player))))
 
@@ -26,7 +26,7 @@ loop-b-init c =
     let t = levels_in c.args.levels.now in
     let s = c.args.by.now.state in
     let i = c.args.by.now.player in
-    let ok = c.game.ensures.is_problem in
+    let ok = c.rules.ensures in
     let x : ℤ = c.in_ok-term.field-0 in
     let is : W x ≡ x = kept x (2 ^ 61) c.in_ok-term.ensures.small (lit< tt) in
     let place : c.args.first ≡ deviation_at p.game s c.args.first i 0 = sym (first_place p.game s c.args.first i ok.game c.requires.state c.requires.profile c.requires.player c.requires.begins) in
@@ -38,10 +38,10 @@ overflow_mul-b c =
     let p = c.args.p.now in
     let s = c.args.by.now.state in
     let i = c.args.by.now.player in
-    let ok = c.game.ensures.is_problem in
-    let inside : c.loop-b.b < slice_index (counts p.game s) i = omega (arith, c.strategies-b-end.ensures ∙ ap (λ g. slice_index (counts g s) i) c.game-2.ensures.game, c.loop-b-test.true) in
-    let step : c.args.first + c.loop-b.b * c.stride_of-stride.result ≡ deviation_at p.game s c.args.first i c.loop-b.b =
-    place_by p.game s c.args.first i c.loop-b.b c.stride_of-stride.result ok.game c.requires.state c.requires.profile c.requires.player inside c.requires.begins (c.stride_of-stride.ensures ∙ ap (λ g. profile_count (take i (counts g s))) c.game.ensures.game) in
+    let ok = c.rules.ensures in
+    let inside : c.loop-b.b < slice_index (counts p.game s) i = omega (arith, c.strategies-b-end.ensures ∙ ap (λ g. slice_index (counts g s) i) c.game.ensures.game, c.loop-b-test.true) in
+    let step : c.args.first + c.loop-b.b * c.args.by.now.stride ≡ deviation_at p.game s c.args.first i c.loop-b.b =
+    place_by p.game s c.args.first i c.loop-b.b c.args.by.now.stride ok.game c.requires.state c.requires.profile c.requires.player inside c.requires.begins c.requires.from.stride in
     omega (arith, step, place_below p.game s c.args.first i c.loop-b.b ok.game c.requires.state c.requires.profile c.requires.player inside, few_profiles p.game s ok.game c.requires.state)
 
 pub overflow_add-first : goal.overflow_add-first
@@ -49,10 +49,10 @@ overflow_add-first c =
     let p = c.args.p.now in
     let s = c.args.by.now.state in
     let i = c.args.by.now.player in
-    let ok = c.game.ensures.is_problem in
-    let inside : c.loop-b.b < slice_index (counts p.game s) i = omega (arith, c.strategies-b-end.ensures ∙ ap (λ g. slice_index (counts g s) i) c.game-2.ensures.game, c.loop-b-test.true) in
-    let step : c.args.first + c.loop-b.b * c.stride_of-stride.result ≡ deviation_at p.game s c.args.first i c.loop-b.b =
-    place_by p.game s c.args.first i c.loop-b.b c.stride_of-stride.result ok.game c.requires.state c.requires.profile c.requires.player inside c.requires.begins (c.stride_of-stride.ensures ∙ ap (λ g. profile_count (take i (counts g s))) c.game.ensures.game) in
+    let ok = c.rules.ensures in
+    let inside : c.loop-b.b < slice_index (counts p.game s) i = omega (arith, c.strategies-b-end.ensures ∙ ap (λ g. slice_index (counts g s) i) c.game.ensures.game, c.loop-b-test.true) in
+    let step : c.args.first + c.loop-b.b * c.args.by.now.stride ≡ deviation_at p.game s c.args.first i c.loop-b.b =
+    place_by p.game s c.args.first i c.loop-b.b c.args.by.now.stride ok.game c.requires.state c.requires.profile c.requires.player inside c.requires.begins c.requires.from.stride in
     omega (arith, step, place_below p.game s c.args.first i c.loop-b.b ok.game c.requires.state c.requires.profile c.requires.player inside, few_profiles p.game s ok.game c.requires.state)
 
 pub term-requires-in-loop-b-clause-profile : goal.term-requires-in-loop-b-clause-profile
@@ -60,10 +60,10 @@ term-requires-in-loop-b-clause-profile c =
     let p = c.args.p.now in
     let s = c.args.by.now.state in
     let i = c.args.by.now.player in
-    let ok = c.game.ensures.is_problem in
-    let inside : c.loop-b.b < slice_index (counts p.game s) i = omega (arith, c.strategies-b-end.ensures ∙ ap (λ g. slice_index (counts g s) i) c.game-2.ensures.game, c.loop-b-test.true) in
-    let step : c.args.first + c.loop-b.b * c.stride_of-stride.result ≡ deviation_at p.game s c.args.first i c.loop-b.b =
-    place_by p.game s c.args.first i c.loop-b.b c.stride_of-stride.result ok.game c.requires.state c.requires.profile c.requires.player inside c.requires.begins (c.stride_of-stride.ensures ∙ ap (λ g. profile_count (take i (counts g s))) c.game.ensures.game) in
+    let ok = c.rules.ensures in
+    let inside : c.loop-b.b < slice_index (counts p.game s) i = omega (arith, c.strategies-b-end.ensures ∙ ap (λ g. slice_index (counts g s) i) c.game.ensures.game, c.loop-b-test.true) in
+    let step : c.args.first + c.loop-b.b * c.args.by.now.stride ≡ deviation_at p.game s c.args.first i c.loop-b.b =
+    place_by p.game s c.args.first i c.loop-b.b c.args.by.now.stride ok.game c.requires.state c.requires.profile c.requires.player inside c.requires.begins c.requires.from.stride in
     rw step (place_below p.game s c.args.first i c.loop-b.b ok.game c.requires.state c.requires.profile c.requires.player inside)
 
 pub returns-in_err-term-2-clause-none : goal.returns-in_err-term-2-clause-none
@@ -72,10 +72,10 @@ returns-in_err-term-2-clause-none c =
     let t = levels_in c.args.levels.now in
     let s = c.args.by.now.state in
     let i = c.args.by.now.player in
-    let ok = c.game.ensures.is_problem in
-    let inside : c.loop-b.b < slice_index (counts p.game s) i = omega (arith, c.strategies-b-end.ensures ∙ ap (λ g. slice_index (counts g s) i) c.game-2.ensures.game, c.loop-b-test.true) in
-    let step : c.args.first + c.loop-b.b * c.stride_of-stride.result ≡ deviation_at p.game s c.args.first i c.loop-b.b =
-    place_by p.game s c.args.first i c.loop-b.b c.stride_of-stride.result ok.game c.requires.state c.requires.profile c.requires.player inside c.requires.begins (c.stride_of-stride.ensures ∙ ap (λ g. profile_count (take i (counts g s))) c.game.ensures.game) in
+    let ok = c.rules.ensures in
+    let inside : c.loop-b.b < slice_index (counts p.game s) i = omega (arith, c.strategies-b-end.ensures ∙ ap (λ g. slice_index (counts g s) i) c.game.ensures.game, c.loop-b-test.true) in
+    let step : c.args.first + c.loop-b.b * c.args.by.now.stride ≡ deviation_at p.game s c.args.first i c.loop-b.b =
+    place_by p.game s c.args.first i c.loop-b.b c.args.by.now.stride ok.game c.requires.state c.requires.profile c.requires.player inside c.requires.begins c.requires.from.stride in
     for_none c.from_residual-in_err-term-2.result (IsKnownLine p t s c.args.first i → ⊥)
     (λ h. c.in_err-term-2.ensures.none (subst (λ m. IsKnown p t (successor p.game s m)) (sym step) (h c.loop-b.b inside)))
 
@@ -85,10 +85,10 @@ loop-b-preserved c =
     let t = levels_in c.args.levels.now in
     let s = c.args.by.now.state in
     let i = c.args.by.now.player in
-    let ok = c.game.ensures.is_problem in
-    let inside : c.loop-b.b < slice_index (counts p.game s) i = omega (arith, c.strategies-b-end.ensures ∙ ap (λ g. slice_index (counts g s) i) c.game-2.ensures.game, c.loop-b-test.true) in
-    let step : c.args.first + c.loop-b.b * c.stride_of-stride.result ≡ deviation_at p.game s c.args.first i c.loop-b.b =
-    place_by p.game s c.args.first i c.loop-b.b c.stride_of-stride.result ok.game c.requires.state c.requires.profile c.requires.player inside c.requires.begins (c.stride_of-stride.ensures ∙ ap (λ g. profile_count (take i (counts g s))) c.game.ensures.game) in
+    let ok = c.rules.ensures in
+    let inside : c.loop-b.b < slice_index (counts p.game s) i = omega (arith, c.strategies-b-end.ensures ∙ ap (λ g. slice_index (counts g s) i) c.game.ensures.game, c.loop-b-test.true) in
+    let step : c.args.first + c.loop-b.b * c.args.by.now.stride ≡ deviation_at p.game s c.args.first i c.loop-b.b =
+    place_by p.game s c.args.first i c.loop-b.b c.args.by.now.stride ok.game c.requires.state c.requires.profile c.requires.player inside c.requires.begins c.requires.from.stride in
     let x : ℤ = c.in_ok-term-2.field-0 in
     let is : W x ≡ x = kept x (2 ^ 61) c.in_ok-term-2.ensures.small (lit< tt) in
     line_more p t s c.args.first i c.loop-b.b c.loop-b.line c.lowered-line.result (W x) c.loop-b.invariant
@@ -103,6 +103,6 @@ returns-clause-some c =
     let t = levels_in c.args.levels.now in
     let s = c.args.by.now.state in
     let i = c.args.by.now.player in
-    let some = some_strategy p.game s i c.game.ensures.is_problem.game c.requires.state c.requires.player in
-    let end : c.loop-b.b ≡ slice_index (counts p.game s) i = omega (arith, some, c.strategies-b-end.ensures ∙ ap (λ g. slice_index (counts g s) i) c.game-2.ensures.game, c.loop-b.auto.b-end, c.loop-b-test.false) in
+    let some = some_strategy p.game s i c.rules.ensures.game c.requires.state c.requires.player in
+    let end : c.loop-b.b ≡ slice_index (counts p.game s) i = omega (arith, some, c.strategies-b-end.ensures ∙ ap (λ g. slice_index (counts g s) i) c.game.ensures.game, c.loop-b.auto.b-end, c.loop-b-test.false) in
     subst (λ n. IsLineBelow p t s c.args.first i n c.loop-b.line) end c.loop-b.invariant
