@@ -346,7 +346,14 @@ fn compare<R: Threads + Sync + Abort>(
     workers: &str,
 ) -> Result<(), Fail> {
     let words = ["solve", "pd.nfg", discount, directions, "grid=4", workers];
-    let alone = ["solve", "pd.nfg", discount, directions, "grid=4", "workers=1"];
+    let alone = [
+        "solve",
+        "pd.nfg",
+        discount,
+        directions,
+        "grid=4",
+        "workers=1",
+    ];
     let mut one = MemSink::new(alloc, 100, Vec::new(alloc))?;
     let mut many = MemSink::new(alloc, 100, Vec::new(alloc))?;
     let first = run(rt, alloc, &alone, Some(content.to_vec(alloc)?), &mut one)?;
@@ -366,7 +373,14 @@ fn workers_find_the_same(rt: HostRuntime) -> Result<(), Fail> {
             compare(&rt, alloc, content, "discount=1/2", "directions=4", workers)?;
         }
         compare(&rt, alloc, PD, "discount=9/10", "directions=8", workers)?;
-        compare(&rt, alloc, SELTEN, "discount=9/10", "directions=16", workers)?;
+        compare(
+            &rt,
+            alloc,
+            SELTEN,
+            "discount=9/10",
+            "directions=16",
+            workers,
+        )?;
     }
     Ok(())
 }
@@ -400,7 +414,14 @@ fn generated_games_settle_alike(rt: HostRuntime) -> Result<(), Fail> {
     let alloc = rt.alloc();
     for seed in 0..200 {
         let content = generated(alloc, seed)?;
-        compare(&rt, alloc, &content, "discount=1/2", "directions=4", "workers=4")?;
+        compare(
+            &rt,
+            alloc,
+            &content,
+            "discount=1/2",
+            "directions=4",
+            "workers=4",
+        )?;
     }
     Ok(())
 }
