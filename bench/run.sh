@@ -1,14 +1,15 @@
 #!/bin/sh
-# Times the built program over the example games in 4 and in 16 directions, a line each. It is no test.
+# Times the built program over the example games in 4 and in 16 directions, by 1, 2 and 4 workers, a line each. It is no
+# test.
 top=$(CDPATH='' cd -- "$(dirname -- "$0")/.." && pwd) || exit 1
 program=$top/crates/payoff_cli/out/payoff_cli
 [ -x "$program" ] || "$top/payoff" solve >/dev/null 2>&1 # a missing word: builds, and is refused
 [ -x "$program" ] || { echo 'bench: build the program first: ./payoff solve examples/pd.nfg' >&2; exit 1; }
 
-# The time of one run of a game in so many directions.
+# The time of one run of a game in so many directions by so many workers.
 measure() {
     game=$1
-    words="discount=1/2 directions=$2"
+    words="discount=1/2 directions=$2 workers=$3"
     name="$(basename "$game") $words"
     if command -v hyperfine >/dev/null 2>&1; then
         # shellcheck disable=SC2086
@@ -30,6 +31,8 @@ measure() {
 
 for game in "$top"/examples/*.nfg; do
     for directions in 4 16; do
-        measure "$game" $directions
+        for workers in 1 2 4; do
+            measure "$game" $directions $workers
+        done
     done
 done
