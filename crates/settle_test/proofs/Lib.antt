@@ -1,3 +1,4 @@
 pub mod Choices
 pub mod Places
 pub mod Settling
+pub mod Tested

@@ -1,6 +1,8 @@
 //! The settling test: whether each finite level of a table is supported within a slack, with what supports it.
 #![tactic(auto)]
 
+mod parts;
 mod settle;
 
-pub use settle::{choice_laws, fails_at, settled, verdict_of};
+pub use parts::{settled, settled_by_states};
+pub use settle::{choice_laws, fails_at, verdict_of};

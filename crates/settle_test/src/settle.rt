@@ -7,43 +7,20 @@ ghost use Rattle.level_table.specs.Levels.{Levels, level_at, levels_in};
 ghost use Rattle.level_table.specs.Notes.{HasRoomFor};
 ghost use Rattle.level_table.specs.Operator.{Fractions, IsFirstLargest};
 ghost use Rattle.level_table.specs.Problem.{Problem as ProblemRecord};
-ghost use Rattle.level_table.specs.Problem.{direction_count, problem_of};
+ghost use Rattle.level_table.specs.Problem.{direction_count};
 ghost use Rattle.level_table.specs.Reasons.{IsGainRow};
 ghost use Rattle.level_table.specs.Supported.{IsEven};
 ghost use Rattle.level_table.specs.Tables.{HasSmallOpening, IsSmallTable};
 ghost use Rattle.settle_test.specs.Verdicts.{FailsAt, IsReadyAt, IsRowVerdict, IsVerdict};
 
-use direction_set::Directions;
-use game_model::{Game, List};
+use game_model::List;
 use level_table::{Level, LevelTable, Problem};
 use pay_frac::Frac;
 use set_operator::{Prepared, RowAnswer, Support, Verdict};
 use std::alloc::{AllocError, Global};
 
-/// Whether a table of a game's levels, in units of `1/E`, is supported within the slack: a support for each finite
-/// row, or else the first row that has none (the fixed points of Abreu, Pearce and Stacchetti 1990 are the tables
-/// that are supported with slack 1).
-pub fn settled(
-    alloc: Global,
-    game: &Game,
-    dirs: &Directions,
-    grid: u32,
-    levels: &LevelTable,
-    slack: u64,
-) -> Result<Verdict, AllocError>
-    requires players { dirs.now.players ≡ game.now.players }
-    requires grid { grid ≤ 30 }
-    requires table { IsSmallTable (problem_of game.now dirs.now grid) levels.now }
-    requires opening { HasSmallOpening (problem_of game.now dirs.now grid) }
-    requires even { IsEven (problem_of game.now dirs.now grid) (levels_in levels.now) }
-    ensures { IfOk result (IsVerdict (problem_of game.now dirs.now grid) levels.now slack) }
-{
-    let p = Problem::new(game, dirs, grid);
-    let mut prepared = Prepared::with_room(alloc, game)?;
-    verdict_of(alloc, &p, levels, slack, &mut prepared)
-}
-
-/// The same of a problem, in room that was made before. Memory is taken for the supports alone.
+/// The settling test of a table, row by row in one thread, in room that was made before. Memory is taken for the supports
+/// alone.
 pub fn verdict_of(
     alloc: Global,
     p: &Problem,
@@ -108,7 +85,7 @@ pub fn choice_laws()
 {}
 
 /// Makes the state of its first row ready.
-fn begin_state(p: &Problem, levels: &LevelTable, prepared: &mut Prepared, row: u32)
+pub(crate) fn begin_state(p: &Problem, levels: &LevelTable, prepared: &mut Prepared, row: u32)
     requires table { IsSmallTable p.now levels.now }
     requires opening { HasSmallOpening p.now }
     requires room { HasRoomFor p.now.game prepared.old.room }
@@ -138,7 +115,7 @@ fn make_ready(p: &Problem, levels: &LevelTable, prepared: &mut Prepared, row: u3
 }
 
 /// Adds a support, where there is one.
-fn add(supports: &mut List<Support>, support: Option<Support>) -> Result<(), AllocError>
+pub(crate) fn add(supports: &mut List<Support>, support: Option<Support>) -> Result<(), AllocError>
     requires { length supports.old < 2 ^ 32 - 1 }
     ensures { OnOk result (supports.new ≡ supports.old ++ option_to_list support) }
 {
@@ -149,8 +126,8 @@ fn add(supports: &mut List<Support>, support: Option<Support>) -> Result<(), All
 }
 
 /// What the test says of a row.
-#[derive(Drop)]
-enum RowVerdict {
+#[derive(Clone, Copy)]
+pub(crate) enum RowVerdict {
     /// What supports it, and none where it is Empty.
     Fine(Option<Support>),
     /// Its level, and the largest value, or none where nothing is admissible.
@@ -158,7 +135,7 @@ enum RowVerdict {
 }
 
 /// Whether a row is supported within the slack.
-fn row_verdict(
+pub(crate) fn row_verdict(
     p: &Problem,
     levels: &LevelTable,
     slack: u64,

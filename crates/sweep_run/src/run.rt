@@ -100,11 +100,11 @@ fn make_run<R: Threads + Sync, G: Gate + Sync>(
 {
     let mut w = start;
     for sweeps in 0..most {
-        if let Some(verdict) = w.settling(alloc, slack)? {
+        if let Some(verdict) = w.settling(rt, alloc, slack)? {
             return Ok(w.ended(sweeps, verdict));
         }
         w.sweep(rt, gate);
     }
-    let verdict = w.verdict(alloc, slack)?;
+    let verdict = w.verdict(rt, alloc, slack)?;
     Ok(w.ended(most, verdict))
 }

@@ -18,7 +18,7 @@ use level_board::{Board, Owner};
 use level_table::{LevelTable, Notes};
 use pay_outside::Gate;
 use set_operator::{Prepared, Verdict};
-use settle_test::{fails_at, verdict_of};
+use settle_test::{fails_at, settled_by_states, verdict_of};
 use std::alloc::{AllocError, Global};
 use std::thread::Threads;
 use worker_pass::{Scratch, Worker, crew, sweep};
@@ -95,8 +95,9 @@ impl<'g> Sweeper<'g> {
 
     /// The verdict of the settling test where the table is supported, and none where a row fails. The row that failed
     /// last is looked at first.
-    pub(crate) fn settling(
+    pub(crate) fn settling<R: Threads + Sync>(
         &mut self,
+        rt: &R,
         alloc: Global,
         slack: u64,
     ) -> Result<Option<Verdict>, AllocError>
@@ -112,7 +113,7 @@ impl<'g> Sweeper<'g> {
         if fails_at(p, levels, slack, &mut self.prepared, self.failed) {
             return Ok(None);
         }
-        let verdict = self.verdict(alloc, slack)?;
+        let verdict = self.verdict(rt, alloc, slack)?;
         if let Verdict::Unsupported { row, .. } = verdict {
             self.failed = row;
             return Ok(None);
@@ -120,8 +121,13 @@ impl<'g> Sweeper<'g> {
         Ok(Some(verdict))
     }
 
-    /// What the settling test says of the table.
-    pub(crate) fn verdict(&mut self, alloc: Global, slack: u64) -> Result<Verdict, AllocError>
+    /// What the settling test says of the table. Several workers share its states.
+    pub(crate) fn verdict<R: Threads + Sync>(
+        &mut self,
+        rt: &R,
+        alloc: Global,
+        slack: u64,
+    ) -> Result<Verdict, AllocError>
         requires sweeper { IsSweeper self.old }
         ensures verdict { IfOk result (IsVerdict (problem_in self.old) self.old.scratch.levels slack) }
         ensures board { self.new.board ≡ self.old.board }
@@ -130,7 +136,11 @@ impl<'g> Sweeper<'g> {
         ensures sweeper { IsSweeper self.new }
     {
         let p = self.board.problem();
-        verdict_of(alloc, p, &self.scratch.levels, slack, &mut self.prepared)
+        let levels = &self.scratch.levels;
+        if self.workers.len() > 1 && p.states() > 1 {
+            return settled_by_states(rt, alloc, p, levels, slack);
+        }
+        verdict_of(alloc, p, levels, slack, &mut self.prepared)
     }
 
     /// Where the run ended, without its room.
