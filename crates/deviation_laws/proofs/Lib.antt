@@ -1,3 +1,5 @@
 pub mod Averages
+pub mod Outcomes
 pub mod Turns
+pub mod Values
 pub mod Worths

@@ -1,6 +1,6 @@
 //! What a plan gains, as an exact fraction.
 
-ghost use Rattle.std.specs.Prelude.{◌≡◌, ℕ, ◌+◌, ◌-◌, ◌*◌, ◌^◌, ◌<◌, ◌≤◌, ◌↔◌, [], ◌∷◌, length, pos, ◌≤ℤ◌, ◌<ℤ◌, IsOk, IfOk, IfErr, IsTrue, slice_index, slice_index_or, unsigned_abs};
+ghost use Rattle.std.specs.Prelude.{◌≡◌, ℕ, ◌+◌, ◌-◌, ◌*◌, ◌^◌, ◌<◌, ◌≤◌, ◌↔◌, [], ◌∷◌, length, pos, ◌*ℤ◌, ◌≤ℤ◌, ◌<ℤ◌, IsOk, IfOk, IfErr, IsTrue, slice_index, slice_index_or, unsigned_abs};
 ghost use Rattle.game_model.specs.Game.{states, counts, profile_count};
 ghost use Rattle.game_model.specs.SelfGeneration.{entries_of, entry_at, part, total_weight};
 ghost use Rattle.pay_frac.specs.Ratio.{Equals, IsLowest, IsSmall};
@@ -178,8 +178,32 @@ fn now_share(set: &Checked, player: u32, state: u32, profile: u32) -> Frac
     let game = set.game();
     let _players = game.players();
     let (p, q) = game.discount_of(player);
-    let payoff = i128::from(q - p) * i128::from(game.payoff(state, profile, player));
-    Frac::of(payoff, i128::from(q) * i128::from(game.denominator()))
+    let payoff = times(q - p, game.payoff(state, profile, player));
+    Frac::of(payoff, times(q, game.denominator()))
+}
+
+/// A number of units, as often as a discount factor's numerator or denominator says.
+fn times(count: u32, units: i64) -> i128
+    requires count { count ≤ 1024 }
+    requires units { unsigned_abs units ≤ 2 ^ 40 }
+    ensures product { result ≡ pos count *ℤ units }
+    ensures small { unsigned_abs result ≤ 2 ^ 50 }
+{
+    i128::from(count) * i128::from(units)
+}
+
+/// The player's discount factor.
+fn discount(set: &Checked, player: u32) -> Frac
+    requires { player < set.now.game.players }
+    ensures equal { Equals result (discount set.now.game player).num (discount set.now.game player).den }
+    ensures some { 0 < set.now.game.q }
+    ensures lowest { IsLowest result }
+    ensures small { IsSmall result }
+{
+    let game = set.game();
+    let _players = game.players();
+    let (p, q) = game.discount_of(player);
+    Frac::of(i128::from(p), i128::from(q))
 }
 
 /// The payoff of a period and the discounted average of what follows.
@@ -197,10 +221,7 @@ fn discounted(
     requires average_small { IsSmall average }
     ensures { Answers (formed_then set.now.game player depth (held now) (held average)) (plus (held now) (product (discount set.now.game player) (held average))) result }
 {
-    let game = set.game();
-    let _players = game.players();
-    let (p, q) = game.discount_of(player);
-    let later = kept(mul(Frac::of(i128::from(p), i128::from(q)), average), depth)?;
+    let later = kept(mul(discount(set, player), average), depth)?;
     kept(add(now, later), depth)
 }
 
