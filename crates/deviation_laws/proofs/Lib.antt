@@ -1,4 +1,5 @@
 pub mod Averages
+pub mod Depths
 pub mod Outcomes
 pub mod Turns
 pub mod Values
