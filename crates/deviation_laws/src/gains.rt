@@ -95,6 +95,7 @@ fn worth_of(
     match plan {
         DevPlan::Stop => Ok(in_units(set, part_of(set, player, state, entry))),
         DevPlan::Play { strategy, plans } => {
+            let _players = set.game().players();
             let next = state_after(set, player, state, entry, *strategy);
             let outcomes = outcomes_after(set, player, state, entry, *strategy);
             let average = average_of(set, player, next, &outcomes, plans, depth)?;
@@ -127,18 +128,19 @@ fn average_of(
     requires deep { (j : ℕ) → j < length plans.now → depth + 1 + depth_of (slice_index_or plans.now j Stop) < 2 ^ 32 }
     ensures { Answers (formed_in_turn set.now.game (correspondence_of set.now.game set.now.corr) player depth next (total_weight outcomes.now) (whole (pos 0)) outcomes.now plans.now) (average_in_turn set.now.game (correspondence_of set.now.game set.now.corr) player next outcomes.now plans.now) result }
 {
+    let _players = set.game().players();
     let total = total_of(outcomes);
     let mut sum = Frac::of(0, 1);
-    for j in 0..plans.len() {
+    for j in 0..outcomes.len() {
         let worth = worth_of(
             set,
             player,
             next,
-            outcomes.entry(j as u32),
-            &plans[j],
+            outcomes.entry(j),
+            &plans[j as usize],
             depth + 1,
         )?;
-        sum = with_outcome(sum, outcomes.weight(j as u32), total, worth, depth)?;
+        sum = with_outcome(sum, outcomes.weight(j), total, worth, depth)?;
     }
     Ok(sum)
 }
