@@ -1,7 +1,8 @@
 -- One outcome more, and the payoff of a period with what follows, as the program adds them.
-use Rattle.std.proofs.Common.{◌≡◌, ℕ, suc, ◌<◌, ◌++◌, List, [], ◌∷◌, Result, Ok, Err, refl, ap, sym, subst, ◌∙◌, arith, unsigned_abs}
+use Rattle.std.proofs.Common.{◌≡◌, ℕ, suc, ◌<◌, ◌++◌, List, [], ◌∷◌, Result, Ok, Err, refl, ap, sym, subst, ◌∙◌, arith, unsigned_abs, to_z, of_z, FitsSigned, ◌≤◌, ◌^◌}
 use Rattle.std.specs.Prelude.{ℤ, pos, negsuc, ◌+ℤ◌, ◌*ℤ◌, ◌<ℤ◌, ◌≤ℤ◌}
-use Rattle.std.proofs.lemmas.Int.{ints}
+use Rattle.std.specs.Int.{w64, w128}
+use Rattle.std.proofs.lemmas.Int.{ints, fits_signed_from_abs, to_z-of_z}
 use Rattle.exact_algebra.proofs.Order.{product_above_zero}
 use Rattle.game_model.specs.Game.{DynamicGame}
 use Rattle.pay_frac.specs.Ratio.{Ratio, IsLowest, IsSmall, Equals}
@@ -83,3 +84,14 @@ value_kept g i n now average d later new r some low0 small0 low' low equal low''
     (same_trans (held new) (plus (held now) (held later)) (plus (held now) (product (discount g i) (held average))) (product_above_zero now.den later.den low0.positive low''.positive) k
     (plus_along (held now) (held later) (held now) (product (discount g i) (held average)) refl (later_equal g i d average later low low' equal h)))
     kept
+
+-- a number of the program, read back
+pub read_back : (z : ℤ) (n : ℕ) → z ≡ pos n → n ≤ 2 ^ 85 → unsigned_abs (to_z w128 (of_z w128 z)) ≡ n
+read_back z n e h =
+    let f : FitsSigned w128 z = fits_signed_from_abs w128 z (rw e (omega (arith, h))) in
+    rw (to_z-of_z w128 z f) (ap unsigned_abs e)
+
+pub read_part : (z y : ℤ) → z ≡ y → unsigned_abs z ≤ 2 ^ 30 → to_z w64 (of_z w64 z) ≡ y
+read_part z y e h =
+    let f : FitsSigned w64 z = fits_signed_from_abs w64 z (omega (arith, h)) in
+    to_z-of_z w64 z f ∙ e

@@ -21,7 +21,7 @@ use Rattle.deviation_laws.proofs.Depths.{depth_each}
 use Rattle.deviation_laws.proofs.Outcomes.{discount_positive}
 use Rattle.deviation_laws.proofs.Periods.{AllPositive, same_scaled, units_positive, worth_positive}
 use Rattle.deviation_laws.proofs.Turns.{in_turn}
-use Rattle.deviation_laws.proofs.Values.{Same, IsPositive, same_trans, product_along, plus_along, beyond_before, Alike, small_alike, beyond_alike, answers_along, answers_after}
+use Rattle.deviation_laws.proofs.Values.{Same, IsPositive, same_trans, product_along, plus_along, beyond_before, err_answers, Alike, small_alike, beyond_alike, answers_along, answers_after}
 use Rattle.deviation_laws.proofs.Worths.{plan_at_most}
 
 pub play_fits : (g : DynamicGame) (c : Correspondence) (i s k b : ℕ) (plans : Vec DevPlan Global) → Fits g c i s k (Play b plans) →
@@ -161,3 +161,21 @@ period_answers g c i n s k b xs x now average r some denominator u weights p low
             ((n, product (discount g i) (divided_by (units g c) (divided_by (pos (total_weight (outcomes_after g s (entry_at c s k) i b))) x)))
                 ∷ (n, now_share g s (profile_after g s (entry_at c s k) i b) i) ∷ (n, value_by g c i s k b x) ∷ []) m like)
         after)
+
+pub play_fails : (g : DynamicGame) (c : Correspondence) (i n s k b : ℕ) (plans : Vec DevPlan Global) (e : GainBeyond) (r : Result Ratio GainBeyond) → r ≡ Err e →
+    IsFirstBeyond (formed_in_turn g c i n (state_after g s (entry_at c s k) i b) (total_weight (outcomes_after g s (entry_at c s k) i b)) (whole (pos 0)) (outcomes_after g s (entry_at c s k) i b) plans.items) e.depth →
+    Answers (formed g c i n s k (Play b plans)) (value_of g c i s k (Play b plans)) r
+play_fails g c i n s k b plans e r h beyond =
+    let xs : List (ℕ × Fraction) = formed_in_turn g c i n (state_after g s (entry_at c s k) i b) (total_weight (outcomes_after g s (entry_at c s k) i b)) (whole (pos 0)) (outcomes_after g s (entry_at c s k) i b) plans.items in
+    let x : Fraction = worth_in_turn g c i (state_after g s (entry_at c s k) i b) (outcomes_after g s (entry_at c s k) i b) plans.items in
+    play_answers g c i n s k b plans r
+    (err_answers
+        (formed_by g c i n s k b
+        (formed_in_turn g c i n (state_after g s (entry_at c s k) i b) (total_weight (outcomes_after g s (entry_at c s k) i b)) (whole (pos 0)) (outcomes_after g s (entry_at c s k) i b) plans.items)
+        (worth_in_turn g c i (state_after g s (entry_at c s k) i b) (outcomes_after g s (entry_at c s k) i b) plans.items))
+        (value_by g c i s k b (worth_in_turn g c i (state_after g s (entry_at c s k) i b) (outcomes_after g s (entry_at c s k) i b) plans.items)) e r h
+        (beyond_before xs ((n, product (discount g i) (divided_by (units g c) (divided_by (pos (total_weight (outcomes_after g s (entry_at c s k) i b))) x)))
+            ∷ (n, now_share g s (profile_after g s (entry_at c s k) i b) i) ∷ (n, value_by g c i s k b x) ∷ []) e.depth beyond))
+
+pub stop_equal : (f : Ratio) (z u : ℤ) → Equals f z u → Equals f z (u *ℤ pos 1)
+stop_equal f z u h = ring (f.num ∷ u ∷ []) (var 0 ⊗ (var 1 ⊗ lit (pos 1))) (var 0 ⊗ var 1) refl ∙ h
