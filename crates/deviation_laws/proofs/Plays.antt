@@ -82,16 +82,16 @@ play_answers g c i n s k b plans r h =
     let e : items-the_row-DevPlan _ (hidden-the_row-DevPlan-0 plans) ≡ plans.items = items_hidden-the_row-DevPlan-0 plans in
     let w : worth_in_turn g c i (state_after g s (entry_at c s k) i b) (outcomes_after g s (entry_at c s k) i b) plans.items ≡ worth_of_each g c i (state_after g s (entry_at c s k) i b) (outcomes_after g s (entry_at c s k) i b) (hidden-the_row-DevPlan-0 plans) =
     sym (row_worth g c i (state_after g s (entry_at c s k) i b) (outcomes_after g s (entry_at c s k) i b) _ (hidden-the_row-DevPlan-0 plans)
-        ∙ ap (λ (ps : List DevPlan). worth_in_turn g c i (state_after g s (entry_at c s k) i b) (outcomes_after g s (entry_at c s k) i b) ps) e) in
+    ∙ ap (λ (ps : List DevPlan). worth_in_turn g c i (state_after g s (entry_at c s k) i b) (outcomes_after g s (entry_at c s k) i b) ps) e) in
     let f : formed_in_turn g c i n (state_after g s (entry_at c s k) i b) (total_weight (outcomes_after g s (entry_at c s k) i b)) (whole (pos 0)) (outcomes_after g s (entry_at c s k) i b) plans.items
-        ≡ formed_each g c i n (state_after g s (entry_at c s k) i b) (total_weight (outcomes_after g s (entry_at c s k) i b)) (whole (pos 0)) (outcomes_after g s (entry_at c s k) i b) (hidden-the_row-DevPlan-0 plans) =
+    ≡ formed_each g c i n (state_after g s (entry_at c s k) i b) (total_weight (outcomes_after g s (entry_at c s k) i b)) (whole (pos 0)) (outcomes_after g s (entry_at c s k) i b) (hidden-the_row-DevPlan-0 plans) =
     sym (row_formed g c i n (state_after g s (entry_at c s k) i b) (total_weight (outcomes_after g s (entry_at c s k) i b)) (whole (pos 0)) (outcomes_after g s (entry_at c s k) i b) _ (hidden-the_row-DevPlan-0 plans)
-        ∙ ap (λ (ps : List DevPlan). formed_in_turn g c i n (state_after g s (entry_at c s k) i b) (total_weight (outcomes_after g s (entry_at c s k) i b)) (whole (pos 0)) (outcomes_after g s (entry_at c s k) i b) ps) e) in
+    ∙ ap (λ (ps : List DevPlan). formed_in_turn g c i n (state_after g s (entry_at c s k) i b) (total_weight (outcomes_after g s (entry_at c s k) i b)) (whole (pos 0)) (outcomes_after g s (entry_at c s k) i b) ps) e) in
     subst (λ (x : Fraction). Answers (formed_by g c i n s k b
-        (formed_each g c i n (state_after g s (entry_at c s k) i b) (total_weight (outcomes_after g s (entry_at c s k) i b)) (whole (pos 0)) (outcomes_after g s (entry_at c s k) i b) (hidden-the_row-DevPlan-0 plans)) x) (value_by g c i s k b x) r) w
+    (formed_each g c i n (state_after g s (entry_at c s k) i b) (total_weight (outcomes_after g s (entry_at c s k) i b)) (whole (pos 0)) (outcomes_after g s (entry_at c s k) i b) (hidden-the_row-DevPlan-0 plans)) x) (value_by g c i s k b x) r) w
     (subst (λ (xs : List (ℕ × Fraction)). Answers (formed_by g c i n s k b xs
-        (worth_in_turn g c i (state_after g s (entry_at c s k) i b) (outcomes_after g s (entry_at c s k) i b) plans.items))
-        (value_by g c i s k b (worth_in_turn g c i (state_after g s (entry_at c s k) i b) (outcomes_after g s (entry_at c s k) i b) plans.items)) r) f h)
+    (worth_in_turn g c i (state_after g s (entry_at c s k) i b) (outcomes_after g s (entry_at c s k) i b) plans.items))
+    (value_by g c i s k b (worth_in_turn g c i (state_after g s (entry_at c s k) i b) (outcomes_after g s (entry_at c s k) i b) plans.items)) r) f h)
 
 -- the payoff of the period and the discounted average make the value
 period_value : (d q scale rest : ℕ) (denominator u total : ℤ) (x : Fraction) →
@@ -102,11 +102,11 @@ period_value d q scale rest denominator u total x =
     (plus (record { num = pos rest *ℤ u; den = pos q *ℤ denominator }) (product (record { num = pos d; den = pos q }) (divided_by (pos scale *ℤ denominator) (divided_by total x))))
     (divided_by (pos scale *ℤ denominator) (divided_by (pos q) (plus (whole (pos (rest * scale) *ℤ u)) (times (pos d) (divided_by total x))))) (pos q *ℤ denominator)
     (ring (pos d ∷ pos q ∷ pos scale ∷ pos rest ∷ denominator ∷ u ∷ total ∷ x.num ∷ x.den ∷ [])
-        (((var 3 ⊗ var 5) ⊗ (var 1 ⊗ ((var 2 ⊗ var 4) ⊗ (var 6 ⊗ var 8)))) ⊕ ((var 0 ⊗ var 7) ⊗ (var 1 ⊗ var 4)))
-        ((var 1 ⊗ var 4) ⊗ ((((var 3 ⊗ var 2) ⊗ var 5) ⊗ (var 6 ⊗ var 8)) ⊕ ((var 0 ⊗ var 7) ⊗ lit (pos 1)))) refl)
+    (((var 3 ⊗ var 5) ⊗ (var 1 ⊗ ((var 2 ⊗ var 4) ⊗ (var 6 ⊗ var 8)))) ⊕ ((var 0 ⊗ var 7) ⊗ (var 1 ⊗ var 4)))
+    ((var 1 ⊗ var 4) ⊗ ((((var 3 ⊗ var 2) ⊗ var 5) ⊗ (var 6 ⊗ var 8)) ⊕ ((var 0 ⊗ var 7) ⊗ lit (pos 1)))) refl)
     (ring (pos q ∷ pos scale ∷ denominator ∷ total ∷ x.den ∷ [])
-        ((var 0 ⊗ var 2) ⊗ (var 0 ⊗ ((var 1 ⊗ var 2) ⊗ (var 3 ⊗ var 4))))
-        ((var 0 ⊗ var 2) ⊗ ((var 1 ⊗ var 2) ⊗ (var 0 ⊗ (lit (pos 1) ⊗ (var 3 ⊗ var 4))))) refl)
+    ((var 0 ⊗ var 2) ⊗ (var 0 ⊗ ((var 1 ⊗ var 2) ⊗ (var 3 ⊗ var 4))))
+    ((var 0 ⊗ var 2) ⊗ ((var 1 ⊗ var 2) ⊗ (var 0 ⊗ (lit (pos 1) ⊗ (var 3 ⊗ var 4))))) refl)
 
 pub period_answers : (g : DynamicGame) (c : Correspondence) (i n s k b : ℕ) (xs : List (ℕ × Fraction)) (x : Fraction) (now average : Ratio) (r : Result Ratio GainBeyond) →
     0 < g.q → pos 0 <ℤ g.denominator → pos 0 <ℤ units g c → 0 < total_weight (outcomes_after g s (entry_at c s k) i b) → IsPositive x →
@@ -133,34 +133,34 @@ period_answers g c i n s k b xs x now average r some denominator u weights p low
     let vp : IsPositive (value_by g c i s k b x) =
     product_above_zero (units g c) (pos g.q *ℤ (pos 1 *ℤ (pos (total_weight (outcomes_after g s (entry_at c s k) i b)) *ℤ x.den))) u
     (product_above_zero (pos g.q) (pos 1 *ℤ (pos (total_weight (outcomes_after g s (entry_at c s k) i b)) *ℤ x.den)) (omega (arith, ints))
-        (product_above_zero (pos 1) (pos (total_weight (outcomes_after g s (entry_at c s k) i b)) *ℤ x.den) (omega (arith, ints)) tx)) in
+    (product_above_zero (pos 1) (pos (total_weight (outcomes_after g s (entry_at c s k) i b)) *ℤ x.den) (omega (arith, ints)) tx)) in
     let sum : Same (plus (held now) (product (discount g i) (held average))) (value_by g c i s k b x) =
     same_trans (plus (held now) (product (discount g i) (held average)))
     (plus (now_share g s (profile_after g s (entry_at c s k) i b) i) (product (discount g i) (divided_by (units g c) (divided_by (pos (total_weight (outcomes_after g s (entry_at c s k) i b))) x))))
     (value_by g c i s k b x) mp
     (plus_along (held now) (product (discount g i) (held average)) (now_share g s (profile_after g s (entry_at c s k) i b) i)
-        (product (discount g i) (divided_by (units g c) (divided_by (pos (total_weight (outcomes_after g s (entry_at c s k) i b))) x))) equal later)
+    (product (discount g i) (divided_by (units g c) (divided_by (pos (total_weight (outcomes_after g s (entry_at c s k) i b))) x))) equal later)
     (period_value (slice_index g.discounts i) g.q c.scale (g.q - slice_index g.discounts i) g.denominator (payoff_at g s (profile_after g s (entry_at c s k) i b) i) (pos (total_weight (outcomes_after g s (entry_at c s k) i b))) x) in
     let three : List (ℕ × Fraction) =
     (n, product (discount g i) (divided_by (units g c) (divided_by (pos (total_weight (outcomes_after g s (entry_at c s k) i b))) x)))
     ∷ (n, now_share g s (profile_after g s (entry_at c s k) i b) i) ∷ (n, value_by g c i s k b x) ∷ [] in
     let like : Alike (formed_then g i n (held now) (held average))
     ((n, product (discount g i) (divided_by (units g c) (divided_by (pos (total_weight (outcomes_after g s (entry_at c s k) i b))) x)))
-        ∷ (n, now_share g s (profile_after g s (entry_at c s k) i b) i) ∷ (n, value_by g c i s k b x) ∷ []) =
+    ∷ (n, now_share g s (profile_after g s (entry_at c s k) i b) i) ∷ (n, value_by g c i s k b x) ∷ []) =
     (refl, ap1, yq, later, (refl, low.positive, zp, equal, (refl, lp, vp, sum, refl))) in
     answers_after xs ((n, product (discount g i) (divided_by (units g c) (divided_by (pos (total_weight (outcomes_after g s (entry_at c s k) i b))) x)))
-        ∷ (n, now_share g s (profile_after g s (entry_at c s k) i b) i) ∷ (n, value_by g c i s k b x) ∷ []) (value_by g c i s k b x) r before.0
+    ∷ (n, now_share g s (profile_after g s (entry_at c s k) i b) i) ∷ (n, value_by g c i s k b x) ∷ []) (value_by g c i s k b x) r before.0
     (answers_along (formed_then g i n (held now) (held average))
-        ((n, product (discount g i) (divided_by (units g c) (divided_by (pos (total_weight (outcomes_after g s (entry_at c s k) i b))) x)))
-            ∷ (n, now_share g s (profile_after g s (entry_at c s k) i b) i) ∷ (n, value_by g c i s k b x) ∷ [])
-        (plus (held now) (product (discount g i) (held average))) (value_by g c i s k b x) r lp sum
-        (small_alike (formed_then g i n (held now) (held average))
-            ((n, product (discount g i) (divided_by (units g c) (divided_by (pos (total_weight (outcomes_after g s (entry_at c s k) i b))) x)))
-                ∷ (n, now_share g s (profile_after g s (entry_at c s k) i b) i) ∷ (n, value_by g c i s k b x) ∷ []) like)
-        (λ m. beyond_alike (formed_then g i n (held now) (held average))
-            ((n, product (discount g i) (divided_by (units g c) (divided_by (pos (total_weight (outcomes_after g s (entry_at c s k) i b))) x)))
-                ∷ (n, now_share g s (profile_after g s (entry_at c s k) i b) i) ∷ (n, value_by g c i s k b x) ∷ []) m like)
-        after)
+    ((n, product (discount g i) (divided_by (units g c) (divided_by (pos (total_weight (outcomes_after g s (entry_at c s k) i b))) x)))
+    ∷ (n, now_share g s (profile_after g s (entry_at c s k) i b) i) ∷ (n, value_by g c i s k b x) ∷ [])
+    (plus (held now) (product (discount g i) (held average))) (value_by g c i s k b x) r lp sum
+    (small_alike (formed_then g i n (held now) (held average))
+    ((n, product (discount g i) (divided_by (units g c) (divided_by (pos (total_weight (outcomes_after g s (entry_at c s k) i b))) x)))
+    ∷ (n, now_share g s (profile_after g s (entry_at c s k) i b) i) ∷ (n, value_by g c i s k b x) ∷ []) like)
+    (λ m. beyond_alike (formed_then g i n (held now) (held average))
+    ((n, product (discount g i) (divided_by (units g c) (divided_by (pos (total_weight (outcomes_after g s (entry_at c s k) i b))) x)))
+    ∷ (n, now_share g s (profile_after g s (entry_at c s k) i b) i) ∷ (n, value_by g c i s k b x) ∷ []) m like)
+    after)
 
 pub play_fails : (g : DynamicGame) (c : Correspondence) (i n s k b : ℕ) (plans : Vec DevPlan Global) (e : GainBeyond) (r : Result Ratio GainBeyond) → r ≡ Err e →
     IsFirstBeyond (formed_in_turn g c i n (state_after g s (entry_at c s k) i b) (total_weight (outcomes_after g s (entry_at c s k) i b)) (whole (pos 0)) (outcomes_after g s (entry_at c s k) i b) plans.items) e.depth →
@@ -170,12 +170,12 @@ play_fails g c i n s k b plans e r h beyond =
     let x : Fraction = worth_in_turn g c i (state_after g s (entry_at c s k) i b) (outcomes_after g s (entry_at c s k) i b) plans.items in
     play_answers g c i n s k b plans r
     (err_answers
-        (formed_by g c i n s k b
-        (formed_in_turn g c i n (state_after g s (entry_at c s k) i b) (total_weight (outcomes_after g s (entry_at c s k) i b)) (whole (pos 0)) (outcomes_after g s (entry_at c s k) i b) plans.items)
-        (worth_in_turn g c i (state_after g s (entry_at c s k) i b) (outcomes_after g s (entry_at c s k) i b) plans.items))
-        (value_by g c i s k b (worth_in_turn g c i (state_after g s (entry_at c s k) i b) (outcomes_after g s (entry_at c s k) i b) plans.items)) e r h
-        (beyond_before xs ((n, product (discount g i) (divided_by (units g c) (divided_by (pos (total_weight (outcomes_after g s (entry_at c s k) i b))) x)))
-            ∷ (n, now_share g s (profile_after g s (entry_at c s k) i b) i) ∷ (n, value_by g c i s k b x) ∷ []) e.depth beyond))
+    (formed_by g c i n s k b
+    (formed_in_turn g c i n (state_after g s (entry_at c s k) i b) (total_weight (outcomes_after g s (entry_at c s k) i b)) (whole (pos 0)) (outcomes_after g s (entry_at c s k) i b) plans.items)
+    (worth_in_turn g c i (state_after g s (entry_at c s k) i b) (outcomes_after g s (entry_at c s k) i b) plans.items))
+    (value_by g c i s k b (worth_in_turn g c i (state_after g s (entry_at c s k) i b) (outcomes_after g s (entry_at c s k) i b) plans.items)) e r h
+    (beyond_before xs ((n, product (discount g i) (divided_by (units g c) (divided_by (pos (total_weight (outcomes_after g s (entry_at c s k) i b))) x)))
+    ∷ (n, now_share g s (profile_after g s (entry_at c s k) i b) i) ∷ (n, value_by g c i s k b x) ∷ []) e.depth beyond))
 
 pub stop_equal : (f : Ratio) (z u : ℤ) → Equals f z u → Equals f z (u *ℤ pos 1)
 stop_equal f z u h = ring (f.num ∷ u ∷ []) (var 0 ⊗ (var 1 ⊗ lit (pos 1))) (var 0 ⊗ var 1) refl ∙ h

@@ -6,10 +6,11 @@ ghost use Rattle.game_model.specs.SelfGeneration.{entries_of, entry_at, part, to
 ghost use Rattle.pay_frac.specs.Ratio.{Equals, IsLowest, IsSmall};
 ghost use Rattle.selfgen_check.specs.Promises.{correspondence_of};
 ghost use Rattle.deviation_laws.specs.declared.plan.DevPlan.{Stop};
+ghost use Rattle.deviation_laws.specs.declared.plan.DevPlan.TheViews.{Play};
 ghost use Rattle.deviation_laws.specs.Fractions.{whole, plus, product};
 ghost use Rattle.deviation_laws.specs.Gains.{units, value_of, gain_of, discount, now_share, weighed, formed, all_formed, AreSmall, IsFirstBeyond, Answers};
 ghost use Rattle.deviation_laws.specs.Lists.{FitInTurn, average_in_turn, formed_in_turn, held, formed_at, formed_then};
-ghost use Rattle.deviation_laws.specs.Plans.{Fits, depth_of};
+ghost use Rattle.deviation_laws.specs.Plans.{Fits, depth_of, state_after, outcomes_after};
 
 use crate::following::{outcomes_after, profile_after, state_after};
 use crate::plan::DevPlan;
@@ -95,10 +96,13 @@ fn worth_of(
     match plan {
         DevPlan::Stop => Ok(in_units(set, part_of(set, player, state, entry))),
         DevPlan::Play { strategy, plans } => {
-            let _players = set.game().players();
             let next = state_after(set, player, state, entry, *strategy);
             let outcomes = outcomes_after(set, player, state, entry, *strategy);
+            plans_follow(
+                set, player, state, entry, *strategy, plans, next, &outcomes, depth,
+            );
             let average = average_of(set, player, next, &outcomes, plans, depth)?;
+            let _players = set.game().players();
             let now = now_share(
                 set,
                 player,
@@ -108,6 +112,32 @@ fn worth_of(
             discounted(set, player, now, average, depth)
         }
     }
+}
+
+/// A law: where a plan fits and isn't too deep, its plans fit the outcomes and aren't too deep, and some weight isn't 0.
+fn plans_follow(
+    set: &Checked,
+    player: u32,
+    state: u32,
+    entry: u32,
+    strategy: u32,
+    plans: &Vec<DevPlan>,
+    next: u32,
+    outcomes: &Lottery,
+    depth: u32,
+)
+    requires player { player < set.now.game.players }
+    requires state { state < states set.now.game }
+    requires entry { entry < length (entries_of (correspondence_of set.now.game set.now.corr) state) }
+    requires fits { Fits set.now.game (correspondence_of set.now.game set.now.corr) player state entry (Play strategy plans.now) }
+    requires deep { depth + depth_of (Play strategy plans.now) < 2 ^ 32 }
+    requires next { next ≡ state_after set.now.game state (entry_at (correspondence_of set.now.game set.now.corr) state entry) player strategy }
+    requires outcomes { outcomes.now ≡ outcomes_after set.now.game state (entry_at (correspondence_of set.now.game set.now.corr) state entry) player strategy }
+    ensures weights { 0 < total_weight outcomes.now }
+    ensures fit { FitInTurn set.now.game (correspondence_of set.now.game set.now.corr) player next outcomes.now plans.now.items }
+    ensures deep { (j : ℕ) → j < length plans.now.items → depth + 1 + depth_of (slice_index_or plans.now.items j Stop) < 2 ^ 32 }
+{
+    let _players = set.game().players();
 }
 
 /// The average of what the plans are worth, one for each outcome of a plan at this depth.

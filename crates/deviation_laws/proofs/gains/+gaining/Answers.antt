@@ -81,24 +81,6 @@ average_of-returns t c =
     let u : pos 0 <ℤ units c.args.set.now.game (correspondence_of c.args.set.now.game c.args.set.now.corr) = units_positive c.args.set.now.game (correspondence_of c.args.set.now.game c.args.set.now.corr) ok self.scaled in
     goes_end c.args.set.now.game (correspondence_of c.args.set.now.game c.args.set.now.corr) c.args.player c.args.depth c.args.next c.args.outcomes.now c.args.plans.now c.loop-j.sum c.loop-j.j u c.requires.weights c.requires.fit.0 (omega (arith, c.requires.fit.0, c.len-j-end.ensures.count, c.loop-j-test.false)) c.loop-j.invariant
 
-pub worth_of-average_of-requires : goal.worth_of-average_of-requires
-worth_of-average_of-requires t c =
-    let ok : IsGame c.args.set.now.game = subst IsGame c.game.ensures.game c.players-players.ensures.is_game in
-    let self : IsSelfGenerating c.args.set.now.game (correspondence_of c.args.set.now.game c.args.set.now.corr) = c.game.ensures.checked.self_generating in
-    let f : Fits c.args.set.now.game (correspondence_of c.args.set.now.game c.args.set.now.corr) c.args.player c.args.state c.args.entry (Play c.in-Play.strategy c.in-Play.plans) = rw c.in-Play.is at c.requires.fits in
-    let strategy : c.in-Play.strategy < slice_index (counts c.args.set.now.game c.args.state) c.args.player = play_strategy c.args.set.now.game (correspondence_of c.args.set.now.game c.args.set.now.corr) c.args.player c.args.state c.args.entry c.in-Play.strategy c.in-Play.plans f in
-    let made = self.generated c.args.state c.args.entry c.requires.state c.requires.entry in
-    let after = follows c.args.set.now.game (correspondence_of c.args.set.now.game c.args.set.now.corr) c.args.state (entry_at (correspondence_of c.args.set.now.game c.args.set.now.corr) c.args.state c.args.entry) c.args.player c.in-Play.strategy ok c.requires.state made c.requires.player strategy in
-    let weights : 0 < total_weight c.outcomes_after-outcomes.result = rw c.outcomes_after-outcomes.ensures.outcomes after.weight in
-    let fit : FitInTurn c.args.set.now.game (correspondence_of c.args.set.now.game c.args.set.now.corr) c.args.player c.state_after-next.result c.outcomes_after-outcomes.result c.deref.result.now =
-    rw (c.state_after-next.ensures.next, c.outcomes_after-outcomes.ensures.outcomes, c.deref.ensures.value) (play_fits c.args.set.now.game (correspondence_of c.args.set.now.game c.args.set.now.corr) c.args.player c.args.state c.args.entry c.in-Play.strategy c.in-Play.plans f) in
-    let known : (j : ℕ) → j < length c.outcomes_after-outcomes.result → (get_or c.outcomes_after-outcomes.result j (0, 0)).0 < length (entries_of (correspondence_of c.args.set.now.game c.args.set.now.corr) c.state_after-next.result) =
-    rw (c.state_after-next.ensures.next, c.outcomes_after-outcomes.ensures.outcomes) after.known in
-    let below : c.args.depth + depth_of (Play c.in-Play.strategy c.in-Play.plans) < 2 ^ 32 = rw c.in-Play.is at c.requires.deep in
-    let deep : (j : ℕ) → j < length c.deref.result.now → c.args.depth + 1 + depth_of (get_or c.deref.result.now j Stop) < 2 ^ 32 =
-    rw c.deref.ensures.value (play_depth c.args.depth (2 ^ 32) c.in-Play.strategy c.in-Play.plans below) in
-    (search rules, (c.requires.player, (c.state_after-next.ensures.in_range, (known, (weights, (fit, deep))))))
-
 pub worth_of-returns-in_err-average-in-Play : goal.worth_of-returns-in_err-average-in-Play
 worth_of-returns-in_err-average-in-Play t c =
     let p = err_from_is_err_and c.from_residual.result c.from_residual.ensures.1 in
