@@ -1,9 +1,9 @@
 -- One outcome more, and the payoff of a period with what follows, as the program adds them.
 use Rattle.std.proofs.Common.{◌≡◌, ℕ, suc, ◌<◌, ◌++◌, List, [], ◌∷◌, Result, Ok, Err, refl, ap, sym, subst, ◌∙◌, arith, unsigned_abs, to_z, of_z, FitsSigned, ◌≤◌, ◌^◌}
-use Rattle.std.specs.Prelude.{ℤ, pos, negsuc, ◌+ℤ◌, ◌*ℤ◌, ◌<ℤ◌, ◌≤ℤ◌}
+use Rattle.std.specs.Prelude.{ℤ, pos, negsuc, ◌+ℤ◌, ◌-ℤ◌, ◌*ℤ◌, ◌<ℤ◌, ◌≤ℤ◌, neg_ℤ}
 use Rattle.std.specs.Int.{w64, w128}
 use Rattle.std.proofs.lemmas.Int.{ints, fits_signed_from_abs, to_z-of_z}
-use Rattle.exact_algebra.proofs.Order.{product_above_zero}
+use Rattle.exact_algebra.proofs.Order.{abs_neg, product_above_zero}
 use Rattle.game_model.specs.Game.{DynamicGame}
 use Rattle.pay_frac.specs.Ratio.{Ratio, IsLowest, IsSmall, Equals}
 use Rattle.deviation_laws.specs.declared.gains.GainBeyond.{GainBeyond}
@@ -95,3 +95,12 @@ pub read_part : (z y : ℤ) → z ≡ y → unsigned_abs z ≤ 2 ^ 30 → to_z w
 read_part z y e h =
     let f : FitsSigned w64 z = fits_signed_from_abs w64 z (omega (arith, h)) in
     to_z-of_z w64 z f ∙ e
+
+-- the same of its negative
+pub neg_read : (z y : ℤ) → z ≡ y → unsigned_abs z ≤ 2 ^ 30 → to_z w64 (of_z w64 (pos 0 -ℤ to_z w64 (of_z w64 z))) ≡ neg_ℤ y
+neg_read z y e h =
+    let f : FitsSigned w64 z = fits_signed_from_abs w64 z (omega (arith, h)) in
+    let m : pos 0 -ℤ z ≡ neg_ℤ z = omega (arith, ints) in
+    let k : unsigned_abs (neg_ℤ z) ≤ 2 ^ 30 = abs_neg z (2 ^ 30) h in
+    let j : FitsSigned w64 (neg_ℤ z) = fits_signed_from_abs w64 (neg_ℤ z) (omega (arith, k)) in
+    rw (to_z-of_z w64 z f, m, to_z-of_z w64 (neg_ℤ z) j) (ap neg_ℤ e)

@@ -1,6 +1,6 @@
 -- A plan that plays: its plans in a row and in a list, and what it is worth by its parts.
 use Rattle.std.proofs.Common.{◌≡◌, ℕ, suc, ◌+◌, ◌-◌, ◌*◌, ◌<◌, ◌≤◌, ◌++◌, List, [], ◌∷◌, length, get_or, Result, Ok, Err, refl, ap, sym, subst, ◌∙◌, arith, Vec}
-use Rattle.std.specs.Prelude.{ℤ, pos, ◌+ℤ◌, ◌*ℤ◌, ◌<ℤ◌, slice_index}
+use Rattle.std.specs.Prelude.{ℤ, pos, neg_ℤ, ◌+ℤ◌, ◌*ℤ◌, ◌<ℤ◌, slice_index}
 use Rattle.std.specs.Global.{Global}
 use Rattle.std.proofs.lemmas.Int.{ints}
 use Rattle.exact_algebra.specs.Poly.{var, lit, ◌⊕◌, ◌⊗◌}
@@ -14,14 +14,14 @@ use Rattle.deviation_laws.specs.declared.plan.DevPlan.{DevPlan, Stop, Row_of-Dev
 use Rattle.deviation_laws.specs.declared.plan.DevPlan.TheBlock.{hidden-the_row-DevPlan-0, items_hidden-the_row-DevPlan-0}
 use Rattle.deviation_laws.specs.declared.plan.DevPlan.TheViews.{Play}
 use Rattle.deviation_laws.specs.Fractions.{Fraction, whole, plus, times, divided_by, product}
-use Rattle.deviation_laws.specs.Gains.{units, value_of, gain_of, discount, now_share, weighed, formed, formed_each, AreSmall, IsFirstBeyond, Answers}
+use Rattle.deviation_laws.specs.Gains.{units, value_of, gain_of, discount, now_share, weighed, formed, formed_each, all_formed, AreSmall, IsFirstBeyond, Answers}
 use Rattle.deviation_laws.specs.Lists.{FitInTurn, worth_in_turn, average_in_turn, formed_in_turn, formed_then, held}
 use Rattle.deviation_laws.specs.Plans.{Fits, worth, worth_of_each, depth_of, profile_after, state_after, outcomes_after}
 use Rattle.deviation_laws.proofs.Depths.{depth_each}
 use Rattle.deviation_laws.proofs.Outcomes.{discount_positive}
 use Rattle.deviation_laws.proofs.Periods.{AllPositive, same_scaled, units_positive, worth_positive}
 use Rattle.deviation_laws.proofs.Turns.{in_turn}
-use Rattle.deviation_laws.proofs.Values.{Same, IsPositive, same_trans, product_along, plus_along, beyond_before, err_answers, Alike, small_alike, beyond_alike, answers_along, answers_after}
+use Rattle.deviation_laws.proofs.Values.{Same, IsPositive, same_trans, product_along, plus_along, beyond_before, err_answers, KeptAs, last_kept, Alike, small_alike, beyond_alike, answers_along, answers_after}
 use Rattle.deviation_laws.proofs.Worths.{plan_at_most}
 
 pub play_fits : (g : DynamicGame) (c : Correspondence) (i s k b : ℕ) (plans : Vec DevPlan Global) → Fits g c i s k (Play b plans) →
@@ -179,3 +179,17 @@ play_fails g c i n s k b plans e r h beyond =
 
 pub stop_equal : (f : Ratio) (z u : ℤ) → Equals f z u → Equals f z (u *ℤ pos 1)
 stop_equal f z u h = ring (f.num ∷ u ∷ []) (var 0 ⊗ (var 1 ⊗ lit (pos 1))) (var 0 ⊗ var 1) refl ∙ h
+
+-- ---- the gain of a plan
+pub gain_answers : (g : DynamicGame) (c : Correspondence) (i : ℕ) → IsGame g → IsSelfGenerating g c → i < g.players → (s k : ℕ) → s < states g → k < length (entries_of c s) → (plan : DevPlan) → Fits g c i s k plan →
+    (v part_less new : Ratio) (r : Result Ratio GainBeyond) → Answers (formed g c i 0 s k plan) (value_of g c i s k plan) (Ok v) →
+    IsLowest part_less → Equals part_less (neg_ℤ (part (entry_at c s k).point i)) (units g c) →
+    IsLowest new → Equals new ((v.num *ℤ part_less.den) +ℤ (part_less.num *ℤ v.den)) (v.den *ℤ part_less.den) → KeptAs new 0 r →
+    Answers (all_formed g c i s k plan) (gain_of g c i s k plan) r
+gain_answers g c i ok self player s k state within plan fits v part_less new r known low equal low' h kept =
+    let u : pos 0 <ℤ units g c = units_positive g c ok self.scaled in
+    let p : IsPositive (value_of g c i s k plan) = product_above_zero (units g c) (worth g c i s k plan).den u (plan_at_most g c i ok self player s k state within plan fits).positive in
+    last_kept (formed g c i 0 s k plan) 0 (gain_of g c i s k plan) new r (product_above_zero (value_of g c i s k plan).den (units g c) p u) known.0 low'
+    (same_trans (held new) (plus (held v) (held part_less)) (gain_of g c i s k plan) (product_above_zero v.den part_less.den known.1.positive low.positive) h
+    (plus_along (held v) (held part_less) (value_of g c i s k plan) (record { num = neg_ℤ (part (entry_at c s k).point i); den = units g c }) known.2 equal))
+    kept

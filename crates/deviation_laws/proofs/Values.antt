@@ -1,6 +1,7 @@
 -- Fractions of the same value, and lists of fractions that are formed.
 use Rattle.std.proofs.Common.{◌≡◌, ℕ, suc, ◌<◌, ◌≤◌, ◌++◌, List, [], ◌∷◌, Result, Ok, Err, inl, inr, ⊎_elim, refl, ap, sym, subst, ◌∙◌, arith}
-use Rattle.std.specs.Prelude.{ℤ, pos, ◌+ℤ◌, ◌*ℤ◌, ◌<ℤ◌, IfOk, IfErr}
+use Rattle.std.specs.Prelude.{ℤ, pos, ◌+ℤ◌, ◌*ℤ◌, ◌<ℤ◌, ◌↔◌, IsOk, IfOk, IfErr}
+use Rattle.std.proofs.lemmas.Bool.{true≢false}
 use Rattle.std.proofs.lemmas.Int.{ints}
 use Rattle.exact_algebra.specs.Poly.{var, lit, ◌⊕◌, ◌⊗◌}
 use Rattle.exact_algebra.proofs.Normal.{ring}
@@ -118,3 +119,20 @@ beyond_alike [] ys n h k = absurd k
 beyond_alike (x ∷ xs) [] n h k = absurd h
 beyond_alike (x ∷ xs) (y ∷ ys) n h (inl k) = inl ((λ (s : IsSmallValue y.1). k.0 (small_along y.1 x.1 h.2 (sym h.3) s)), k.1 ∙ h.0)
 beyond_alike (x ∷ xs) (y ∷ ys) n h (inr k) = inr (small_along x.1 y.1 h.1 h.3 k.0, beyond_alike xs ys n h.4 k.1)
+
+-- ---- what the answers say
+pub answers_small : (xs : List (ℕ × Fraction)) (x : Fraction) (r : Result Ratio GainBeyond) → Answers xs x r → IsOk r ↔ AreSmall xs
+answers_small xs x (Ok f) h = ((λ y. h.0), (λ y. refl))
+answers_small xs x (Err e) h = ((λ y. absurd (true≢false (sym y))), (λ y. absurd (not_both xs e.depth h y)))
+
+pub answers_equal : (xs : List (ℕ × Fraction)) (x : Fraction) (r : Result Ratio GainBeyond) → Answers xs x r → IfOk r (λ f. Equals f x.num x.den)
+answers_equal xs x (Ok f) h = h.2
+answers_equal xs x (Err e) h = tt
+
+pub answers_lowest : (xs : List (ℕ × Fraction)) (x : Fraction) (r : Result Ratio GainBeyond) → Answers xs x r → IfOk r IsLowest
+answers_lowest xs x (Ok f) h = h.1
+answers_lowest xs x (Err e) h = tt
+
+pub answers_beyond : (xs : List (ℕ × Fraction)) (x : Fraction) (r : Result Ratio GainBeyond) → Answers xs x r → IfErr r (λ e. IsFirstBeyond xs e.depth)
+answers_beyond xs x (Ok f) h = tt
+answers_beyond xs x (Err e) h = h

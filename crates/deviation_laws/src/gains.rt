@@ -1,6 +1,6 @@
 //! What a plan gains, as an exact fraction.
 
-ghost use Rattle.std.specs.Prelude.{◌≡◌, ℕ, ◌+◌, ◌-◌, ◌*◌, ◌^◌, ◌<◌, ◌≤◌, ◌↔◌, [], ◌∷◌, length, pos, ◌*ℤ◌, ◌≤ℤ◌, ◌<ℤ◌, IsOk, IfOk, IfErr, IsTrue, slice_index, slice_index_or, unsigned_abs};
+ghost use Rattle.std.specs.Prelude.{◌≡◌, ℕ, ◌+◌, ◌-◌, ◌*◌, ◌^◌, ◌<◌, ◌≤◌, ◌↔◌, [], ◌∷◌, length, pos, neg_ℤ, ◌*ℤ◌, ◌≤ℤ◌, ◌<ℤ◌, IsOk, IfOk, IfErr, IsTrue, slice_index, slice_index_or, unsigned_abs};
 ghost use Rattle.game_model.specs.Game.{states, counts, profile_count};
 ghost use Rattle.game_model.specs.SelfGeneration.{entries_of, entry_at, part, total_weight};
 ghost use Rattle.pay_frac.specs.Ratio.{Equals, IsLowest, IsSmall};
@@ -71,9 +71,39 @@ pub fn gain(
     ensures lowest { IfOk result IsLowest }
     ensures beyond { IfErr result (λ e. IsFirstBeyond (all_formed set.now.game (correspondence_of set.now.game set.now.corr) player state entry plan.now) e.depth) }
 {
+    gained(set, player, state, entry, plan)
+}
+
+/// The same, with all that is known of it in one clause.
+fn gained(
+    set: &Checked,
+    player: u32,
+    state: u32,
+    entry: u32,
+    plan: &DevPlan,
+) -> Result<Frac, GainBeyond>
+    requires player { player < set.now.game.players }
+    requires state { state < states set.now.game }
+    requires entry { entry < length (entries_of (correspondence_of set.now.game set.now.corr) state) }
+    requires fits { Fits set.now.game (correspondence_of set.now.game set.now.corr) player state entry plan.now }
+    requires deep { depth_of plan.now < 2 ^ 32 }
+    ensures { Answers (all_formed set.now.game (correspondence_of set.now.game set.now.corr) player state entry plan.now) (gain_of set.now.game (correspondence_of set.now.game set.now.corr) player state entry plan.now) result }
+{
+    let _players = set.game().players();
     let worth = worth_of(set, player, state, entry, plan, 0)?;
-    let part = in_units(set, -part_of(set, player, state, entry));
-    kept(add(worth, part), 0)
+    kept(add(worth, less_part(set, player, state, entry)), 0)
+}
+
+/// The player's part of an entry, with the other sign.
+fn less_part(set: &Checked, player: u32, state: u32, entry: u32) -> Frac
+    requires player { player < set.now.game.players }
+    requires state { state < states set.now.game }
+    requires entry { entry < length (entries_of (correspondence_of set.now.game set.now.corr) state) }
+    ensures equal { Equals result (neg_ℤ (part (entry_at (correspondence_of set.now.game set.now.corr) state entry).point player)) (units set.now.game (correspondence_of set.now.game set.now.corr)) }
+    ensures lowest { IsLowest result }
+    ensures small { IsSmall result }
+{
+    in_units(set, -part_of(set, player, state, entry))
 }
 
 /// The worth of a plan at this depth.

@@ -104,7 +104,7 @@ worth_of-returns-in_ok-average-in-Play t c =
     let before : Answers (formed_in_turn c.args.set.now.game (correspondence_of c.args.set.now.game c.args.set.now.corr) c.args.player c.args.depth (state_after c.args.set.now.game c.args.state (entry_at (correspondence_of c.args.set.now.game c.args.set.now.corr) c.args.state c.args.entry) c.args.player c.in-Play.strategy) (total_weight (outcomes_after c.args.set.now.game c.args.state (entry_at (correspondence_of c.args.set.now.game c.args.set.now.corr) c.args.state c.args.entry) c.args.player c.in-Play.strategy)) (whole (pos 0)) (outcomes_after c.args.set.now.game c.args.state (entry_at (correspondence_of c.args.set.now.game c.args.set.now.corr) c.args.state c.args.entry) c.args.player c.in-Play.strategy) c.in-Play.plans.items) (average_in_turn c.args.set.now.game (correspondence_of c.args.set.now.game c.args.set.now.corr) c.args.player (state_after c.args.set.now.game c.args.state (entry_at (correspondence_of c.args.set.now.game c.args.set.now.corr) c.args.state c.args.entry) c.args.player c.in-Play.strategy) (outcomes_after c.args.set.now.game c.args.state (entry_at (correspondence_of c.args.set.now.game c.args.set.now.corr) c.args.state c.args.entry) c.args.player c.in-Play.strategy) c.in-Play.plans.items) (Ok c.in_ok-average-in-Play.average) = rw (c.state_after-next.ensures.next, c.outcomes_after-outcomes.ensures.outcomes, c.deref.ensures.value) at c.in_ok-average-in-Play.ensures in
     let now : Equals c.now_share-now.result (now_share c.args.set.now.game c.args.state (profile_after c.args.set.now.game c.args.state (entry_at (correspondence_of c.args.set.now.game c.args.set.now.corr) c.args.state c.args.entry) c.args.player c.in-Play.strategy) c.args.player).num (now_share c.args.set.now.game c.args.state (profile_after c.args.set.now.game c.args.state (entry_at (correspondence_of c.args.set.now.game c.args.set.now.corr) c.args.state c.args.entry) c.args.player c.in-Play.strategy) c.args.player).den = rw c.profile_after.ensures.profile at c.now_share-now.ensures.equal in
     rw c.in-Play.is (play_answers c.args.set.now.game (correspondence_of c.args.set.now.game c.args.set.now.corr) c.args.player c.args.depth c.args.state c.args.entry c.in-Play.strategy c.in-Play.plans c.discounted.result
-        (period_answers c.args.set.now.game (correspondence_of c.args.set.now.game c.args.set.now.corr) c.args.player c.args.depth c.args.state c.args.entry c.in-Play.strategy (formed_in_turn c.args.set.now.game (correspondence_of c.args.set.now.game c.args.set.now.corr) c.args.player c.args.depth (state_after c.args.set.now.game c.args.state (entry_at (correspondence_of c.args.set.now.game c.args.set.now.corr) c.args.state c.args.entry) c.args.player c.in-Play.strategy) (total_weight (outcomes_after c.args.set.now.game c.args.state (entry_at (correspondence_of c.args.set.now.game c.args.set.now.corr) c.args.state c.args.entry) c.args.player c.in-Play.strategy)) (whole (pos 0)) (outcomes_after c.args.set.now.game c.args.state (entry_at (correspondence_of c.args.set.now.game c.args.set.now.corr) c.args.state c.args.entry) c.args.player c.in-Play.strategy) c.in-Play.plans.items) (worth_in_turn c.args.set.now.game (correspondence_of c.args.set.now.game c.args.set.now.corr) c.args.player (state_after c.args.set.now.game c.args.state (entry_at (correspondence_of c.args.set.now.game c.args.set.now.corr) c.args.state c.args.entry) c.args.player c.in-Play.strategy) (outcomes_after c.args.set.now.game c.args.state (entry_at (correspondence_of c.args.set.now.game c.args.set.now.corr) c.args.state c.args.entry) c.args.player c.in-Play.strategy) c.in-Play.plans.items) c.now_share-now.result c.in_ok-average-in-Play.average c.discounted.result
-            (omega (arith, ok.discounts_below c.args.player c.requires.player)) (omega (arith, ints, ok.denominator_positive)) u after.weight
-            (worth_positive c.args.set.now.game (correspondence_of c.args.set.now.game c.args.set.now.corr) c.args.player (state_after c.args.set.now.game c.args.state (entry_at (correspondence_of c.args.set.now.game c.args.set.now.corr) c.args.state c.args.entry) c.args.player c.in-Play.strategy) (outcomes_after c.args.set.now.game c.args.state (entry_at (correspondence_of c.args.set.now.game c.args.set.now.corr) c.args.state c.args.entry) c.args.player c.in-Play.strategy) c.in-Play.plans.items (all_positive c.args.set.now.game (correspondence_of c.args.set.now.game c.args.set.now.corr) c.args.player ok self c.requires.player (state_after c.args.set.now.game c.args.state (entry_at (correspondence_of c.args.set.now.game c.args.set.now.corr) c.args.state c.args.entry) c.args.player c.in-Play.strategy) after.next (outcomes_after c.args.set.now.game c.args.state (entry_at (correspondence_of c.args.set.now.game c.args.set.now.corr) c.args.state c.args.entry) c.args.player c.in-Play.strategy) c.in-Play.plans.items after.known fit))
-            c.now_share-now.ensures.lowest now before c.discounted.ensures))
+    (period_answers c.args.set.now.game (correspondence_of c.args.set.now.game c.args.set.now.corr) c.args.player c.args.depth c.args.state c.args.entry c.in-Play.strategy (formed_in_turn c.args.set.now.game (correspondence_of c.args.set.now.game c.args.set.now.corr) c.args.player c.args.depth (state_after c.args.set.now.game c.args.state (entry_at (correspondence_of c.args.set.now.game c.args.set.now.corr) c.args.state c.args.entry) c.args.player c.in-Play.strategy) (total_weight (outcomes_after c.args.set.now.game c.args.state (entry_at (correspondence_of c.args.set.now.game c.args.set.now.corr) c.args.state c.args.entry) c.args.player c.in-Play.strategy)) (whole (pos 0)) (outcomes_after c.args.set.now.game c.args.state (entry_at (correspondence_of c.args.set.now.game c.args.set.now.corr) c.args.state c.args.entry) c.args.player c.in-Play.strategy) c.in-Play.plans.items) (worth_in_turn c.args.set.now.game (correspondence_of c.args.set.now.game c.args.set.now.corr) c.args.player (state_after c.args.set.now.game c.args.state (entry_at (correspondence_of c.args.set.now.game c.args.set.now.corr) c.args.state c.args.entry) c.args.player c.in-Play.strategy) (outcomes_after c.args.set.now.game c.args.state (entry_at (correspondence_of c.args.set.now.game c.args.set.now.corr) c.args.state c.args.entry) c.args.player c.in-Play.strategy) c.in-Play.plans.items) c.now_share-now.result c.in_ok-average-in-Play.average c.discounted.result
+    (omega (arith, ok.discounts_below c.args.player c.requires.player)) (omega (arith, ints, ok.denominator_positive)) u after.weight
+    (worth_positive c.args.set.now.game (correspondence_of c.args.set.now.game c.args.set.now.corr) c.args.player (state_after c.args.set.now.game c.args.state (entry_at (correspondence_of c.args.set.now.game c.args.set.now.corr) c.args.state c.args.entry) c.args.player c.in-Play.strategy) (outcomes_after c.args.set.now.game c.args.state (entry_at (correspondence_of c.args.set.now.game c.args.set.now.corr) c.args.state c.args.entry) c.args.player c.in-Play.strategy) c.in-Play.plans.items (all_positive c.args.set.now.game (correspondence_of c.args.set.now.game c.args.set.now.corr) c.args.player ok self c.requires.player (state_after c.args.set.now.game c.args.state (entry_at (correspondence_of c.args.set.now.game c.args.set.now.corr) c.args.state c.args.entry) c.args.player c.in-Play.strategy) after.next (outcomes_after c.args.set.now.game c.args.state (entry_at (correspondence_of c.args.set.now.game c.args.set.now.corr) c.args.state c.args.entry) c.args.player c.in-Play.strategy) c.in-Play.plans.items after.known fit))
+    c.now_share-now.ensures.lowest now before c.discounted.ensures))
