@@ -1,5 +1,5 @@
 -- How many periods the plans of a row play, and those of the same in a list.
-use Rattle.std.proofs.Common.{◌≡◌, ℕ, zero, suc, ◌-◌, ◌<◌, ◌≤◌, List, [], ◌∷◌, length, get_or, max, subst, arith, Vec}
+use Rattle.std.proofs.Common.{◌≡◌, ℕ, zero, suc, ◌-◌, ◌<◌, ◌≤◌, List, ◌∷◌, length, get_or, max, subst, arith, Vec}
 use Rattle.std.specs.Prelude.{◌↔◌}
 use Rattle.std.specs.Global.{Global}
 use Rattle.deviation_laws.specs.declared.plan.DevPlan.{DevPlan, Stop, Row_of-DevPlan, end_of-DevPlan, more_of-DevPlan, items-the_row-DevPlan}

@@ -1,14 +1,14 @@
 -- One outcome more, and the payoff of a period with what follows, as the program adds them.
-use Rattle.std.proofs.Common.{◌≡◌, ℕ, suc, ◌<◌, ◌++◌, List, [], ◌∷◌, Result, Ok, Err, refl, ap, sym, subst, ◌∙◌, arith, unsigned_abs, to_z, of_z, FitsSigned, ◌≤◌, ◌^◌}
-use Rattle.std.specs.Prelude.{ℤ, pos, negsuc, ◌+ℤ◌, ◌-ℤ◌, ◌*ℤ◌, ◌<ℤ◌, ◌≤ℤ◌, neg_ℤ}
+use Rattle.std.proofs.Common.{◌≡◌, ℕ, ◌<◌, [], ◌∷◌, Result, refl, ap, ◌∙◌, arith, unsigned_abs, to_z, of_z, FitsSigned, ◌≤◌, ◌^◌}
+use Rattle.std.specs.Prelude.{ℤ, pos, ◌+ℤ◌, ◌-ℤ◌, ◌*ℤ◌, ◌<ℤ◌, ◌≤ℤ◌, neg_ℤ}
 use Rattle.std.specs.Int.{w64, w128}
 use Rattle.std.proofs.lemmas.Int.{ints, fits_signed_from_abs, to_z-of_z}
 use Rattle.exact_algebra.proofs.Order.{abs_neg, product_above_zero}
 use Rattle.game_model.specs.Game.{DynamicGame}
 use Rattle.pay_frac.specs.Ratio.{Ratio, IsLowest, IsSmall, Equals}
 use Rattle.deviation_laws.specs.declared.gains.GainBeyond.{GainBeyond}
-use Rattle.deviation_laws.specs.Fractions.{Fraction, whole, plus, times, divided_by, product}
-use Rattle.deviation_laws.specs.Gains.{IsSmallValue, AreSmall, IsFirstBeyond, Answers, discount, weighed}
+use Rattle.deviation_laws.specs.Fractions.{Fraction, plus, product}
+use Rattle.deviation_laws.specs.Gains.{IsFirstBeyond, Answers, discount, weighed}
 use Rattle.deviation_laws.specs.Lists.{held, formed_at, formed_then}
 use Rattle.deviation_laws.proofs.Values.{Same, IsPositive, same_trans, product_along, plus_along, small_value, beyond_here, KeptAs, last_kept}
 

@@ -1,22 +1,20 @@
 -- What the plans of a period are worth together, outcome by outcome.
-use Rattle.std.proofs.Common.{◌≡◌, ℕ, zero, suc, ◌+◌, ◌-◌, ◌*◌, ◌<◌, ◌≤◌, ◌++◌, List, [], ◌∷◌, length, get_or, Result, Ok, Err, refl, ap, sym, subst, ◌∙◌, arith, Vec, unsigned_abs, add-one}
-use Rattle.std.specs.Prelude.{ℤ, pos, ◌+ℤ◌, ◌*ℤ◌, ◌<ℤ◌, slice_index}
-use Rattle.std.specs.Global.{Global}
+use Rattle.std.proofs.Common.{◌≡◌, ℕ, zero, suc, ◌+◌, ◌<◌, ◌≤◌, ◌++◌, List, [], ◌∷◌, length, get_or, Ok, refl, ap, sym, ◌∙◌, arith, unsigned_abs, add-one}
+use Rattle.std.specs.Prelude.{ℤ, pos, ◌*ℤ◌, ◌<ℤ◌}
 use Rattle.std.proofs.Math.ListN.{drop}
 use Rattle.std.proofs.Math.Seq.{drop-cons}
 use Rattle.std.proofs.lemmas.Int.{ints}
 use Rattle.exact_algebra.specs.Poly.{var, lit, ◌⊕◌, ◌⊗◌}
 use Rattle.exact_algebra.proofs.Normal.{ring}
 use Rattle.exact_algebra.proofs.Order.{product_above_zero}
-use Rattle.game_model.specs.Game.{DynamicGame, IsGame, payoff_at}
-use Rattle.game_model.specs.SelfGeneration.{Correspondence, IsSelfGenerating, entry_at, total_weight}
+use Rattle.game_model.specs.Game.{DynamicGame, IsGame}
+use Rattle.game_model.specs.SelfGeneration.{Correspondence, total_weight}
 use Rattle.pay_frac.specs.Ratio.{Ratio, IsLowest, IsSmall, Equals}
-use Rattle.deviation_laws.specs.declared.gains.GainBeyond.{GainBeyond}
-use Rattle.deviation_laws.specs.declared.plan.DevPlan.{DevPlan, Stop, Row_of-DevPlan, end_of-DevPlan, more_of-DevPlan, items-the_row-DevPlan}
-use Rattle.deviation_laws.specs.Fractions.{Fraction, whole, plus, times, divided_by, product}
-use Rattle.deviation_laws.specs.Gains.{units, value_of, weighed, formed, formed_each, AreSmall, IsFirstBeyond, Answers}
+use Rattle.deviation_laws.specs.declared.plan.DevPlan.{DevPlan, Stop}
+use Rattle.deviation_laws.specs.Fractions.{Fraction, whole, plus, times, divided_by}
+use Rattle.deviation_laws.specs.Gains.{units, value_of, weighed, formed, AreSmall, IsFirstBeyond, Answers}
 use Rattle.deviation_laws.specs.Lists.{worth_in_turn, average_in_turn, formed_in_turn, held, formed_at}
-use Rattle.deviation_laws.specs.Plans.{worth, worth_of_each}
+use Rattle.deviation_laws.specs.Plans.{worth}
 use Rattle.deviation_laws.proofs.Outcomes.{weighed_positive}
 use Rattle.deviation_laws.proofs.Values.{Same, IsPositive, same_trans, product_along, plus_along, small_then, beyond_before, beyond_after, Alike, small_alike, beyond_alike}
 
@@ -142,8 +140,6 @@ pub goes_on : (g : DynamicGame) (c : Correspondence) (i n t : ℕ) (os : List (�
     Answers (formed_at n (get_or os j (0, 0)).1 (total_weight os) (held sum) (held v)) (plus (held sum) (weighed (get_or os j (0, 0)).1 (total_weight os) (held v))) (Ok new) →
     Goes g c i n t os plans sum j → Goes g c i n t os plans new (j + 1)
 goes_on g c i n t os plans sum v new j u some all same h worth next k =
-    let w : ℕ = (get_or os j (0, 0)).1 in
-    let x : Fraction = value_at g c i t os plans j in
     let xp : IsPositive (value_at g c i t os plans j) = value_positive g c i t os plans j u all h in
     let wp : IsPositive (weighed (get_or os j (0, 0)).1 (total_weight os) (value_at g c i t os plans j)) = weighed_positive (get_or os j (0, 0)).1 (total_weight os) (value_at g c i t os plans j) some xp in
     let ds : drop j os ≡ get_or os j (0, 0) ∷ drop (suc j) os = drop-cons os j (0, 0) (omega (arith, same)) in

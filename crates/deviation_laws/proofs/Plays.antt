@@ -8,18 +8,18 @@ use Rattle.exact_algebra.proofs.Normal.{ring}
 use Rattle.exact_algebra.proofs.Order.{product_above_zero}
 use Rattle.game_model.specs.Game.{DynamicGame, IsGame, states, counts, payoff_at}
 use Rattle.game_model.specs.SelfGeneration.{Correspondence, IsSelfGenerating, entries_of, entry_at, part, total_weight}
-use Rattle.pay_frac.specs.Ratio.{Ratio, IsLowest, IsSmall, Equals}
+use Rattle.pay_frac.specs.Ratio.{Ratio, IsLowest, Equals}
 use Rattle.deviation_laws.specs.declared.gains.GainBeyond.{GainBeyond}
 use Rattle.deviation_laws.specs.declared.plan.DevPlan.{DevPlan, Stop, Row_of-DevPlan, end_of-DevPlan, more_of-DevPlan, items-the_row-DevPlan}
 use Rattle.deviation_laws.specs.declared.plan.DevPlan.TheBlock.{hidden-the_row-DevPlan-0, items_hidden-the_row-DevPlan-0}
 use Rattle.deviation_laws.specs.declared.plan.DevPlan.TheViews.{Play}
 use Rattle.deviation_laws.specs.Fractions.{Fraction, whole, plus, times, divided_by, product}
-use Rattle.deviation_laws.specs.Gains.{units, value_of, gain_of, discount, now_share, weighed, formed, formed_each, all_formed, AreSmall, IsFirstBeyond, Answers}
-use Rattle.deviation_laws.specs.Lists.{FitInTurn, worth_in_turn, average_in_turn, formed_in_turn, formed_then, held}
+use Rattle.deviation_laws.specs.Gains.{units, value_of, gain_of, discount, now_share, weighed, formed, formed_each, all_formed, IsFirstBeyond, Answers}
+use Rattle.deviation_laws.specs.Lists.{FitInTurn, worth_in_turn, formed_in_turn, formed_then, held}
 use Rattle.deviation_laws.specs.Plans.{Fits, worth, worth_of_each, depth_of, profile_after, state_after, outcomes_after}
 use Rattle.deviation_laws.proofs.Depths.{depth_each}
 use Rattle.deviation_laws.proofs.Outcomes.{discount_positive}
-use Rattle.deviation_laws.proofs.Periods.{AllPositive, same_scaled, units_positive, worth_positive}
+use Rattle.deviation_laws.proofs.Periods.{AllPositive, same_scaled, units_positive}
 use Rattle.deviation_laws.proofs.Turns.{in_turn}
 use Rattle.deviation_laws.proofs.Values.{Same, IsPositive, same_trans, product_along, plus_along, beyond_before, err_answers, KeptAs, last_kept, Alike, small_alike, beyond_alike, answers_along, answers_after}
 use Rattle.deviation_laws.proofs.Worths.{plan_at_most}
@@ -78,7 +78,6 @@ pub play_answers : (g : DynamicGame) (c : Correspondence) (i n s k b : ℕ) (pla
     (value_by g c i s k b (worth_in_turn g c i (state_after g s (entry_at c s k) i b) (outcomes_after g s (entry_at c s k) i b) plans.items)) r →
     Answers (formed g c i n s k (Play b plans)) (value_of g c i s k (Play b plans)) r
 play_answers g c i n s k b plans r h =
-    let t : ℕ = state_after g s (entry_at c s k) i b in
     let e : items-the_row-DevPlan _ (hidden-the_row-DevPlan-0 plans) ≡ plans.items = items_hidden-the_row-DevPlan-0 plans in
     let w : worth_in_turn g c i (state_after g s (entry_at c s k) i b) (outcomes_after g s (entry_at c s k) i b) plans.items ≡ worth_of_each g c i (state_after g s (entry_at c s k) i b) (outcomes_after g s (entry_at c s k) i b) (hidden-the_row-DevPlan-0 plans) =
     sym (row_worth g c i (state_after g s (entry_at c s k) i b) (outcomes_after g s (entry_at c s k) i b) _ (hidden-the_row-DevPlan-0 plans)
@@ -115,9 +114,6 @@ pub period_answers : (g : DynamicGame) (c : Correspondence) (i n s k b : ℕ) (x
     Answers (formed_then g i n (held now) (held average)) (plus (held now) (product (discount g i) (held average))) r →
     Answers (formed_by g c i n s k b xs x) (value_by g c i s k b x) r
 period_answers g c i n s k b xs x now average r some denominator u weights p low equal before after =
-    let total : ℤ = pos (total_weight (outcomes_after g s (entry_at c s k) i b)) in
-    let y : Fraction = divided_by (units g c) (divided_by (pos (total_weight (outcomes_after g s (entry_at c s k) i b))) x) in
-    let z : Fraction = now_share g s (profile_after g s (entry_at c s k) i b) i in
     let tx : pos 0 <ℤ (pos (total_weight (outcomes_after g s (entry_at c s k) i b)) *ℤ x.den) = product_above_zero (pos (total_weight (outcomes_after g s (entry_at c s k) i b))) x.den (omega (arith, ints)) p in
     let yp : IsPositive (divided_by (units g c) (divided_by (pos (total_weight (outcomes_after g s (entry_at c s k) i b))) x)) =
     product_above_zero (units g c) (pos (total_weight (outcomes_after g s (entry_at c s k) i b)) *ℤ x.den) u tx in
@@ -141,9 +137,6 @@ period_answers g c i n s k b xs x now average r some denominator u weights p low
     (plus_along (held now) (product (discount g i) (held average)) (now_share g s (profile_after g s (entry_at c s k) i b) i)
     (product (discount g i) (divided_by (units g c) (divided_by (pos (total_weight (outcomes_after g s (entry_at c s k) i b))) x))) equal later)
     (period_value (slice_index g.discounts i) g.q c.scale (g.q - slice_index g.discounts i) g.denominator (payoff_at g s (profile_after g s (entry_at c s k) i b) i) (pos (total_weight (outcomes_after g s (entry_at c s k) i b))) x) in
-    let three : List (ℕ × Fraction) =
-    (n, product (discount g i) (divided_by (units g c) (divided_by (pos (total_weight (outcomes_after g s (entry_at c s k) i b))) x)))
-    ∷ (n, now_share g s (profile_after g s (entry_at c s k) i b) i) ∷ (n, value_by g c i s k b x) ∷ [] in
     let like : Alike (formed_then g i n (held now) (held average))
     ((n, product (discount g i) (divided_by (units g c) (divided_by (pos (total_weight (outcomes_after g s (entry_at c s k) i b))) x)))
     ∷ (n, now_share g s (profile_after g s (entry_at c s k) i b) i) ∷ (n, value_by g c i s k b x) ∷ []) =
@@ -193,3 +186,9 @@ gain_answers g c i ok self player s k state within plan fits v part_less new r k
     (same_trans (held new) (plus (held v) (held part_less)) (gain_of g c i s k plan) (product_above_zero v.den part_less.den known.1.positive low.positive) h
     (plus_along (held v) (held part_less) (value_of g c i s k plan) (record { num = neg_ℤ (part (entry_at c s k).point i); den = units g c }) known.2 equal))
     kept
+
+pub gain_positive : (g : DynamicGame) (c : Correspondence) (i : ℕ) → IsGame g → IsSelfGenerating g c → i < g.players → (s k : ℕ) → s < states g → k < length (entries_of c s) → (plan : DevPlan) → Fits g c i s k plan →
+    IsPositive (gain_of g c i s k plan)
+gain_positive g c i ok self player s k state within plan fits =
+    let u : pos 0 <ℤ units g c = units_positive g c ok self.scaled in
+    product_above_zero (value_of g c i s k plan).den (units g c) (product_above_zero (units g c) (worth g c i s k plan).den u (plan_at_most g c i ok self player s k state within plan fits).positive) u

@@ -1,17 +1,16 @@
 -- Fractions of the same value, and lists of fractions that are formed.
-use Rattle.std.proofs.Common.{◌≡◌, ℕ, suc, ◌<◌, ◌≤◌, ◌++◌, List, [], ◌∷◌, Result, Ok, Err, inl, inr, ⊎_elim, refl, ap, sym, subst, ◌∙◌, arith}
-use Rattle.std.specs.Prelude.{ℤ, pos, ◌+ℤ◌, ◌*ℤ◌, ◌<ℤ◌, ◌↔◌, IsOk, IfOk, IfErr}
+use Rattle.std.proofs.Common.{◌≡◌, ℕ, ◌++◌, List, [], ◌∷◌, Result, Ok, Err, inl, inr, refl, ap, sym, subst, ◌∙◌}
+use Rattle.std.specs.Prelude.{pos, ◌+ℤ◌, ◌*ℤ◌, ◌<ℤ◌, ◌↔◌, IsOk, IfOk, IfErr}
 use Rattle.std.proofs.lemmas.Bool.{true≢false}
-use Rattle.std.proofs.lemmas.Int.{ints}
-use Rattle.exact_algebra.specs.Poly.{var, lit, ◌⊕◌, ◌⊗◌}
+use Rattle.exact_algebra.specs.Poly.{var, ◌⊕◌, ◌⊗◌}
 use Rattle.exact_algebra.proofs.Normal.{ring}
-use Rattle.exact_algebra.proofs.Order.{same_from_times, product_above_zero}
+use Rattle.exact_algebra.proofs.Order.{same_from_times}
 use Rattle.pay_frac.specs.Ratio.{Ratio, IsLowest, IsSmall, Equals}
 use Rattle.pay_frac.proofs.Laws.{same_number}
 use Rattle.deviation_laws.specs.declared.gains.GainBeyond.{GainBeyond}
-use Rattle.deviation_laws.specs.Fractions.{Fraction, whole, plus, times, divided_by, product}
-use Rattle.deviation_laws.specs.Gains.{IsSmallValue, AreSmall, IsFirstBeyond, Answers, weighed}
-use Rattle.deviation_laws.specs.Lists.{held, formed_at}
+use Rattle.deviation_laws.specs.Fractions.{Fraction, plus, product}
+use Rattle.deviation_laws.specs.Gains.{IsSmallValue, AreSmall, IsFirstBeyond, Answers}
+use Rattle.deviation_laws.specs.Lists.{held}
 
 abbrev pub Same : Fraction → Fraction → Type 0
 Same x y = x.num *ℤ y.den ≡ y.num *ℤ x.den

@@ -5,7 +5,7 @@ use Rattle.game_model.specs.SelfGeneration.{Correspondence, entry_at, part, tota
 use Rattle.pay_frac.specs.Ratio.{Ratio, IsLowest, IsSmall, Equals}
 use Rattle.deviation_laws.specs.declared.gains.GainBeyond.{GainBeyond}
 use Rattle.deviation_laws.specs.declared.plan.DevPlan.{DevPlan, Stop, Play', Row_of-DevPlan, end_of-DevPlan, more_of-DevPlan}
-use Rattle.deviation_laws.specs.Fractions.{Fraction, whole, plus, times, divided_by, product}
+use Rattle.deviation_laws.specs.Fractions.{Fraction, whole, plus, divided_by, product}
 use Rattle.deviation_laws.specs.Plans.{profile_after, state_after, outcomes_after, worth, worth_of_each}
 
 -- how many units of the entries' parts one unit of the game is

@@ -68,13 +68,14 @@ pub fn gain(
     requires deep { depth_of plan.now < 2 ^ 32 }
     ensures small { IsOk result ↔ AreSmall (all_formed set.now.game (correspondence_of set.now.game set.now.corr) player state entry plan.now) }
     ensures equal { IfOk result (λ f. Equals f (gain_of set.now.game (correspondence_of set.now.game set.now.corr) player state entry plan.now).num (gain_of set.now.game (correspondence_of set.now.game set.now.corr) player state entry plan.now).den) }
+    ensures positive { pos 0 <ℤ (gain_of set.now.game (correspondence_of set.now.game set.now.corr) player state entry plan.now).den }
     ensures lowest { IfOk result IsLowest }
     ensures beyond { IfErr result (λ e. IsFirstBeyond (all_formed set.now.game (correspondence_of set.now.game set.now.corr) player state entry plan.now) e.depth) }
 {
     gained(set, player, state, entry, plan)
 }
 
-/// The same, with all that is known of it in one clause.
+/// The same, with both answers in one clause.
 fn gained(
     set: &Checked,
     player: u32,
@@ -87,7 +88,8 @@ fn gained(
     requires entry { entry < length (entries_of (correspondence_of set.now.game set.now.corr) state) }
     requires fits { Fits set.now.game (correspondence_of set.now.game set.now.corr) player state entry plan.now }
     requires deep { depth_of plan.now < 2 ^ 32 }
-    ensures { Answers (all_formed set.now.game (correspondence_of set.now.game set.now.corr) player state entry plan.now) (gain_of set.now.game (correspondence_of set.now.game set.now.corr) player state entry plan.now) result }
+    ensures positive { pos 0 <ℤ (gain_of set.now.game (correspondence_of set.now.game set.now.corr) player state entry plan.now).den }
+    ensures answers { Answers (all_formed set.now.game (correspondence_of set.now.game set.now.corr) player state entry plan.now) (gain_of set.now.game (correspondence_of set.now.game set.now.corr) player state entry plan.now) result }
 {
     let _players = set.game().players();
     let worth = worth_of(set, player, state, entry, plan, 0)?;

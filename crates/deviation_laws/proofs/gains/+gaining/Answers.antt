@@ -1,22 +1,22 @@
-use Rattle.std.proofs.Common.{rules, ◌≡◌, ◌+◌, ◌^◌, ◌<◌, ℕ, suc, get_or, length, ◌∙◌, ap, sym, subst, refl, arith, add-one, Ok, Err}
+use Rattle.std.proofs.Common.{◌≡◌, ◌<◌, suc, get_or, length, ◌∙◌, ap, subst, arith, add-one, Ok, Err}
 use Rattle.std.specs.Prelude.{pos, ◌<ℤ◌, slice_index}
 use Rattle.std.proofs.lemmas.Int.{ints}
 use Rattle.std.proofs.lemmas.Result.{err_from_is_err_and}
 use Rattle.std.proofs.lemmas.List.{get_or_read}
-use Rattle.pay_frac.specs.Ratio.{Ratio, Equals, IsLowest}
+use Rattle.pay_frac.specs.Ratio.{Equals}
 use Rattle.game_model.specs.Game.{IsGame, counts}
-use Rattle.game_model.specs.SelfGeneration.{IsSelfGenerating, entries_of, entry_at, part, total_weight}
+use Rattle.game_model.specs.SelfGeneration.{IsSelfGenerating, entry_at, part, total_weight}
 use Rattle.selfgen_check.specs.Promises.{correspondence_of}
 use Rattle.deviation_laws.specs.declared.plan.DevPlan.{Stop}
-use Rattle.deviation_laws.specs.Fractions.{Fraction, whole, plus, divided_by}
-use Rattle.deviation_laws.specs.Gains.{formed, now_share, units, value_of, weighed, Answers, IsFirstBeyond}
+use Rattle.deviation_laws.specs.Fractions.{whole, plus}
+use Rattle.deviation_laws.specs.Gains.{formed, now_share, units, weighed, Answers, IsFirstBeyond}
 use Rattle.deviation_laws.specs.Lists.{FitInTurn, average_in_turn, formed_in_turn, worth_in_turn, formed_at, held}
-use Rattle.deviation_laws.specs.Plans.{Fits, depth_of, outcomes_after, profile_after, state_after}
+use Rattle.deviation_laws.specs.Plans.{Fits, outcomes_after, profile_after, state_after}
 use Rattle.deviation_laws.specs.declared.plan.DevPlan.TheViews.{Play}
 use Rattle.deviation_laws.proofs.Averages.{follows}
 use Rattle.deviation_laws.proofs.Outcomes.{read_back, read_part}
 use Rattle.deviation_laws.proofs.Periods.{AllPositive, value_at, worth_positive, goes_start, goes_on, goes_end, plan_fails, outcome_fails, units_positive}
-use Rattle.deviation_laws.proofs.Plays.{play_fits, play_depth, play_strategy, play_answers, play_fails, period_answers, stop_equal, all_positive}
+use Rattle.deviation_laws.proofs.Plays.{play_fits, play_strategy, play_answers, play_fails, period_answers, stop_equal, all_positive}
 use Rattle.deviation_laws.proofs.Values.{err_answers}
 use Rattle.deviation_laws.proofs.gains.+gaining.Goals as goal
 

@@ -1,4 +1,3 @@
-use Rattle.std.proofs.Common.{◌<◌}
 use Rattle.std.specs.Prelude.{IsTrue}
 use Rattle.deviation_laws.proofs.Depths.{depth_play}
 use Rattle.deviation_laws.proofs.gains.+playing.Goals as goal

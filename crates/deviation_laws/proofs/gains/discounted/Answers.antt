@@ -1,4 +1,4 @@
-use Rattle.std.proofs.Common.{◌≡◌, ◌<◌, ap, ◌∙◌, sym, subst, Err}
+use Rattle.std.proofs.Common.{ap, ◌∙◌, sym, subst, Err}
 use Rattle.std.specs.Prelude.{◌*ℤ◌}
 use Rattle.std.proofs.lemmas.Result.{err_from_is_err_and}
 use Rattle.pay_frac.specs.Ratio.{Ratio, Equals, IsLowest, IsSmall}

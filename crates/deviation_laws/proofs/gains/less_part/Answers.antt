@@ -1,5 +1,4 @@
-use Rattle.std.proofs.Common.{◌≡◌, ◌≤◌, ◌^◌, refl, unsigned_abs}
-use Rattle.std.specs.Prelude.{neg_ℤ}
+use Rattle.std.proofs.Common.{◌^◌, refl}
 use Rattle.exact_algebra.proofs.Order.{abs_neg}
 use Rattle.game_model.specs.SelfGeneration.{entry_at, part}
 use Rattle.selfgen_check.specs.Promises.{correspondence_of}

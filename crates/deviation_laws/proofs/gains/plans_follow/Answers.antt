@@ -1,4 +1,4 @@
-use Rattle.std.proofs.Common.{◌≡◌, ◌<◌, ◌^◌, subst}
+use Rattle.std.proofs.Common.{◌^◌, subst}
 use Rattle.game_model.specs.Game.{IsGame}
 use Rattle.game_model.specs.SelfGeneration.{IsSelfGenerating, entry_at}
 use Rattle.selfgen_check.specs.Promises.{correspondence_of}

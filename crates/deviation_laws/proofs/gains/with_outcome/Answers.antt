@@ -1,10 +1,10 @@
-use Rattle.std.proofs.Common.{◌≡◌, [], ◌∷◌, ap, ◌∙◌, sym, subst, arith, refl, unsigned_abs, Err, ℕ, ◌<◌}
+use Rattle.std.proofs.Common.{ap, ◌∙◌, sym, subst, arith, unsigned_abs, Err, ◌<◌}
 use Rattle.std.specs.Int.{w128}
-use Rattle.std.specs.Prelude.{ℤ, pos, ◌*ℤ◌, ◌<ℤ◌}
+use Rattle.std.specs.Prelude.{pos, ◌*ℤ◌}
 use Rattle.std.proofs.lemmas.Int.{ints, to_z-of_z}
 use Rattle.std.proofs.lemmas.Result.{err_from_is_err_and}
 use Rattle.pay_frac.specs.Ratio.{Ratio, Equals, IsLowest, IsSmall}
-use Rattle.deviation_laws.specs.Fractions.{Fraction, plus, product}
+use Rattle.deviation_laws.specs.Fractions.{plus}
 use Rattle.deviation_laws.specs.Gains.{weighed}
 use Rattle.deviation_laws.specs.Lists.{held, formed_at}
 use Rattle.deviation_laws.proofs.Outcomes.{share_beyond, part_beyond, sum_kept, of_naturals}
