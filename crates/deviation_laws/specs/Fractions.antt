@@ -16,3 +16,6 @@ times z x = record { num = z *ℤ x.num; den = x.den }
 
 abbrev pub divided_by : ℤ → Fraction → Fraction
 divided_by z x = record { num = x.num; den = z *ℤ x.den }
+
+abbrev pub product : Fraction → Fraction → Fraction
+product x y = record { num = x.num *ℤ y.num; den = x.den *ℤ y.den }

@@ -1,3 +1,4 @@
 pub mod Fractions
+pub mod Gains
 pub mod Lists
 pub mod Plans

@@ -1,5 +1,5 @@
 -- Plans of deviations of one player, and what they are worth to the player. The other players follow the entries.
-use Rattle.std.specs.Prelude.{ℕ, ◌-◌, ◌*◌, ◌<◌, List, [], ◌∷◌, slice_index, nat_eq, if◌then◌else◌, pos, ◌*ℤ◌}
+use Rattle.std.specs.Prelude.{ℕ, suc, max, ◌-◌, ◌*◌, ◌<◌, List, [], ◌∷◌, slice_index, nat_eq, if◌then◌else◌, pos, ◌*ℤ◌}
 use Rattle.game_model.specs.Game.{DynamicGame, counts, payoff_at, successor, strategy_at, deviation_at}
 use Rattle.game_model.specs.SelfGeneration.{Correspondence, Entry, entry_at, part, total_weight, punishment, profile_of}
 use Rattle.deviation_laws.specs.declared.plan.DevPlan.{DevPlan, Stop, Play', Row_of-DevPlan, end_of-DevPlan, more_of-DevPlan}
@@ -44,3 +44,13 @@ abbrev mutual
   worth_of_each g c i t [] plans = whole (pos 0)
   worth_of_each g c i t (o ∷ os) end_of-DevPlan = whole (pos 0)
   worth_of_each g c i t (o ∷ os) (more_of-DevPlan plan plans) = plus (times (pos o.1) (worth g c i t o.0 plan)) (worth_of_each g c i t os plans)
+
+-- the number of periods that a plan plays at most
+abbrev mutual
+  pub depth_of : DevPlan → ℕ
+  depth_of Stop = 0
+  depth_of (Play' b shape plans) = suc (greatest_depth plans)
+
+  pub greatest_depth : {m : _} → Row_of-DevPlan m → ℕ
+  greatest_depth end_of-DevPlan = 0
+  greatest_depth (more_of-DevPlan plan plans) = max (depth_of plan) (greatest_depth plans)

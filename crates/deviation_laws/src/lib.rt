@@ -3,10 +3,12 @@
 
 mod fitting;
 mod following;
+mod gains;
 mod laws;
 mod plan;
 
 pub use fitting::fits;
+pub use gains::{GainBeyond, gain, plays_at_most};
 pub use laws::no_gain;
 pub use plan::DevPlan;
 

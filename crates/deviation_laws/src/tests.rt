@@ -4,6 +4,7 @@ ghost use Rattle.game_model.specs.Worked.{prisoners};
 
 use super::*;
 use game_model::{Game, GameParts, List};
+use pay_frac::Frac;
 use selfgen_check::{Checked, Corr, Entry, Lottery, check, keeps_limits};
 use std::alloc::{AllocError, Global};
 use std::test::Fail;
@@ -56,54 +57,73 @@ fn then(alloc: Global, strategy: u32, plan: DevPlan) -> Result<DevPlan, AllocErr
     })
 }
 
-fn fits_at_cooperation(set: &Checked, plan: &DevPlan) -> bool {
+/// What the plan gains, where it fits.
+fn gain_at_cooperation(set: &Checked, plan: &DevPlan) -> Option<Result<Frac, GainBeyond>> {
     let game = set.game();
     let corr = set.corr();
     if game.players() == 0 || game.states() == 0 || corr.states() == 0 {
-        return false;
+        return None;
     }
-    corr.entries(0).len() > 1 && fits(set, 0, 0, 1, plan)
+    if corr.entries(0).len() > 1 && fits(set, 0, 0, 1, plan) && plays_at_most(plan, u32::MAX) {
+        Some(gain(set, 0, 0, 1, plan))
+    } else {
+        None
+    }
 }
 
-/// Whether the plan fits, where the game and the correspondence do.
-fn answer(game: &Game, corr: Corr, plan: &DevPlan) -> Option<bool> {
+/// The same, where the game and the correspondence fit.
+fn answer(game: &Game, corr: Corr, plan: &DevPlan) -> Option<Result<Frac, GainBeyond>> {
     if !keeps_limits(game, &corr) {
         return None;
     }
     match check(game, corr) {
-        Ok(set) => Some(fits_at_cooperation(&set, plan)),
+        Ok(set) => gain_at_cooperation(&set, plan),
         Err(_) => None,
     }
 }
 
-fn plans(alloc: Global) -> Result<[(DevPlan, bool); 7], AllocError> {
+/// Periods of cooperation under punishment, after a deviation: each halves what follows.
+fn meek(alloc: Global, periods: u32) -> Result<DevPlan, AllocError> {
+    let mut plan = DevPlan::Stop;
+    for _ in 0..periods {
+        plan = then(alloc, 0, plan)?;
+    }
+    then(alloc, 1, plan)
+}
+
+type Wanted = Option<Result<Frac, GainBeyond>>;
+
+fn plans(alloc: Global) -> Result<[(DevPlan, Wanted); 9], AllocError> {
+    let nothing = Some(Ok(Frac::of(0, 1)));
     let twice = vec![in alloc; DevPlan::Stop, DevPlan::Stop]?;
     let back = then(alloc, 0, then(alloc, 1, DevPlan::Stop)?)?;
     Ok([
-        (DevPlan::Stop, true),
-        (then(alloc, 0, DevPlan::Stop)?, true),
-        (then(alloc, 1, DevPlan::Stop)?, true),
-        (then(alloc, 2, DevPlan::Stop)?, false),
+        (DevPlan::Stop, nothing),
+        (then(alloc, 0, DevPlan::Stop)?, nothing),
+        (then(alloc, 1, DevPlan::Stop)?, nothing),
+        (then(alloc, 2, DevPlan::Stop)?, None),
         (
             DevPlan::Play {
                 strategy: 0,
                 plans: twice,
             },
-            false,
+            None,
         ),
-        (then(alloc, 1, back)?, true),
-        (then(alloc, 1, then(alloc, 2, DevPlan::Stop)?)?, false),
+        (then(alloc, 1, back)?, Some(Ok(Frac::of(-1, 4)))),
+        (then(alloc, 1, then(alloc, 2, DevPlan::Stop)?)?, None),
+        (meek(alloc, 2)?, Some(Ok(Frac::of(-3, 8)))),
+        (meek(alloc, 69)?, Some(Err(GainBeyond { depth: 7 }))),
     ])
 }
 
 #[test]
-fn plans_fit_or_not(rt: HostRuntime) -> Result<(), Fail> {
+fn plans_fit_and_gain(rt: HostRuntime) -> Result<(), Fail> {
     let game = Game::build(dilemma(rt.alloc())?)
         .ok()
         .ok_or("the parts fit")?;
     for (plan, wanted) in &plans(rt.alloc())? {
         let corr = threat(rt.alloc())?;
-        assert_eq!(rt; answer(&game, corr, plan), Some(*wanted));
+        assert_eq!(rt; answer(&game, corr, plan), *wanted);
     }
     Ok(())
 }

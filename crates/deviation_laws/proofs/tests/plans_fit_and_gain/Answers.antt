@@ -1,7 +1,7 @@
 use Rattle.std.proofs.Common.{sym, subst}
 use Rattle.game_model.specs.Parts.{KeepLimits}
 use Rattle.selfgen_check.proofs.Dilemma.{dilemma_keeps_limits}
-use Rattle.deviation_laws.proofs.tests.plans_fit_or_not.Goals as goal
+use Rattle.deviation_laws.proofs.tests.plans_fit_and_gain.Goals as goal
 
 pub build-requires : goal.build-requires
 build-requires g c = subst KeepLimits (sym c.in_ok-dilemma.ensures) dilemma_keeps_limits
