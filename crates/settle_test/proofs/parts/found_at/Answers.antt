@@ -1,9 +1,7 @@
-use Rattle.std.proofs.Common.{◌≡◌, ◌/◌, ◌%◌, ◌<◌, ℕ, List, length, get_or, sym, ap, subst, ◌∙◌, arith}
-use Rattle.std.proofs.Math.Nat.{mod-lt}
+use Rattle.std.proofs.Common.{◌≡◌, ◌/◌, ◌%◌, ◌<◌, ℕ, length, get_or, sym, ap, subst, ◌∙◌, arith}
 use Rattle.std.proofs.lemmas.List.{get_or_default}
 use Rattle.level_table.specs.Problem.{direction_count}
 use Rattle.settle_test.specs.declared.parts.Part.{Part}
-use Rattle.settle_test.specs.declared.settle.RowVerdict.{RowVerdict}
 use Rattle.settle_test.specs.Parts.{IsTested, nothing_found}
 use Rattle.settle_test.specs.Verdicts.{IsRowVerdict, direction_of, state_of}
 use Rattle.settle_test.proofs.Places.{row_known}

@@ -1,5 +1,5 @@
 use Rattle.std.proofs.Common.{◌≡◌, ◌<◌, length, arith}
-use Rattle.settle_test.proofs.Settling.{few_more, verdict_unsupported, verdict_supported, supports_more}
+use Rattle.settle_test.proofs.Settling.{verdict_unsupported, verdict_supported}
 use Rattle.settle_test.proofs.parts.gathered.Goals as goal
 
 pub returns-in-Unsupported : goal.returns-in-Unsupported

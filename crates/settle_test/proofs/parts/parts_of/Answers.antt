@@ -1,8 +1,7 @@
-use Rattle.std.proofs.Common.{◌≡◌, ◌++◌, ◌∷◌, [], All, refl, sym, subst, arith}
+use Rattle.std.proofs.Common.{All, refl, sym, subst, arith}
 use Rattle.std.proofs.lemmas.List.Elements.{All-push}
 use Rattle.game_model.specs.Game.{DynamicGame}
 use Rattle.level_table.specs.Notes.{HasRoomFor}
-use Rattle.settle_test.specs.declared.parts.Part.{Part}
 use Rattle.settle_test.specs.Parts.{IsRoomy}
 use Rattle.settle_test.proofs.parts.parts_of.Goals as goal
 

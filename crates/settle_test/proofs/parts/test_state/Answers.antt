@@ -1,9 +1,8 @@
-use Rattle.std.proofs.Common.{◌≡◌, ◌⊎◌, inl, ℕ, ◌+◌, ◌*◌, ◌%◌, ◌<◌, ◌≤◌, length, slice_index_or, below_more, sym, ap, subst, ◌∙◌, arith}
+use Rattle.std.proofs.Common.{◌≡◌, ◌⊎◌, inl, ℕ, ◌+◌, ◌*◌, ◌%◌, ◌<◌, length, slice_index_or, below_more, sym, ap, subst, arith}
 use Rattle.level_table.specs.Problem.{direction_count}
-use Rattle.settle_test.specs.declared.settle.RowVerdict.{RowVerdict}
 use Rattle.settle_test.specs.Parts.{nothing_found}
 use Rattle.settle_test.specs.Verdicts.{IsReadyAt, IsRowVerdict}
-use Rattle.settle_test.proofs.Places.{place_below, ready_next}
+use Rattle.settle_test.proofs.Places.{ready_next}
 use Rattle.settle_test.proofs.Tested.{place_in, first_place}
 use Rattle.settle_test.proofs.parts.test_state.Goals as goal
 
