@@ -1,4 +1,3 @@
-pub mod Lexing
 pub mod Loops
 pub mod Parts
 pub mod Shorter

@@ -5,7 +5,7 @@ use Rattle.std.specs.Str.{bytes_eq}
 use Rattle.std.proofs.lemmas.Option.{cond_some, same_Some, none-some}
 use Rattle.std.proofs.lemmas.Slice.Eq.{bytes_eq-Decides}
 use Rattle.pay_frac.specs.Ratio.{Ratio}
-use Rattle.nfg_text.specs.Tokens.{Kind, open_brace, close_brace, quoted, word, unclosed}
+use Rattle.token_text.specs.Tokens.{Kind, open_brace, close_brace, quoted, word, unclosed, ended}
 use Rattle.nfg_text.specs.PlainFile.{IsCount, IsPayoff}
 use Rattle.nfg_text.specs.Reading.{◌>>=◌, open_at, close_at, quoted_at, word_at, is_tag, exact_at, tag_at, title_at, names_at, count_of, count_at, counts_at, payoff_of, payoff_at, payoffs_at}
 use Rattle.nfg_text.proofs.Spelled.{bind_ok, bind_then, count_is, count_again, payoff_is, payoff_again}
@@ -17,6 +17,7 @@ open_is (close_brace ∷ ks) r e = absurd (none-some r e)
 open_is (quoted t ∷ ks) r e = absurd (none-some r e)
 open_is (word w ∷ ks) r e = absurd (none-some r e)
 open_is (unclosed ∷ ks) r e = absurd (none-some r e)
+open_is (ended ∷ ks) r e = absurd (none-some r e)
 
 close_is : (ks rest : List Kind) → close_at ks ≡ Some rest → ks ≡ close_brace ∷ rest
 close_is [] r e = absurd (none-some r e)
@@ -25,6 +26,7 @@ close_is (close_brace ∷ ks) r e = ap (λ l. close_brace ∷ l) (same_Some ks r
 close_is (quoted t ∷ ks) r e = absurd (none-some r e)
 close_is (word w ∷ ks) r e = absurd (none-some r e)
 close_is (unclosed ∷ ks) r e = absurd (none-some r e)
+close_is (ended ∷ ks) r e = absurd (none-some r e)
 
 quoted_is : (ks : List Kind) (r : List ℕ × List Kind) → quoted_at ks ≡ Some r → ks ≡ quoted r.0 ∷ r.1
 quoted_is [] r e = absurd (none-some r e)
@@ -33,6 +35,7 @@ quoted_is (close_brace ∷ ks) r e = absurd (none-some r e)
 quoted_is (quoted t ∷ ks) r e = ap (λ (p : List ℕ × List Kind). quoted p.0 ∷ p.1) (same_Some (t, ks) r e)
 quoted_is (word w ∷ ks) r e = absurd (none-some r e)
 quoted_is (unclosed ∷ ks) r e = absurd (none-some r e)
+quoted_is (ended ∷ ks) r e = absurd (none-some r e)
 
 word_is : (ks : List Kind) (r : List ℕ × List Kind) → word_at ks ≡ Some r → ks ≡ word r.0 ∷ r.1
 word_is [] r e = absurd (none-some r e)
@@ -41,6 +44,7 @@ word_is (close_brace ∷ ks) r e = absurd (none-some r e)
 word_is (quoted t ∷ ks) r e = absurd (none-some r e)
 word_is (word w ∷ ks) r e = ap (λ (p : List ℕ × List Kind). word p.0 ∷ p.1) (same_Some (w, ks) r e)
 word_is (unclosed ∷ ks) r e = absurd (none-some r e)
+word_is (ended ∷ ks) r e = absurd (none-some r e)
 
 exact_is : (wanted : List ℕ) (ks rest : List Kind) → exact_at wanted ks ≡ Some rest → ks ≡ word wanted ∷ rest
 unfolding exact_at

@@ -1,13 +1,19 @@
--- One step of each loop that reads a number, a text or the payoffs.
-use Rattle.std.proofs.Common.{◌≡◌, ℕ, suc, ◌+◌, ◌-◌, ◌*◌, ◌^◌, ◌<◌, ◌≤◌, ◌==◌, ◌&&◌, true, false, List, [], ◌∷◌, ◌++◌, length, drop, get_or, Option, Some, None, refl, sym, ◌∙◌, ap, arith, append_assoc, lit<}
+-- The next token, and one step of each loop that reads a number or the payoffs.
+use Rattle.std.proofs.Common.{◌≡◌, ℕ, suc, ◌+◌, ◌-◌, ◌*◌, ◌^◌, ◌<◌, ◌≤◌, ◌&&◌, true, false, List, [], ◌∷◌, ◌++◌, length, map, drop, get_or, Option, Some, None, refl, sym, ◌∙◌, ap, arith, append_assoc, lit<}
 use Rattle.std.specs.Option.{option_map}
 use Rattle.std.proofs.lemmas.List.{drop_more, append-nil}
+use Rattle.std.proofs.lemmas.Bool.{true≢false}
 use Rattle.std.proofs.lemmas.Bool.Decides.{nat_tests}
 use Rattle.std.proofs.Math.Nat.{pow-suc, pow-le-pow_right}
 use Rattle.pay_frac.specs.Ratio.{Ratio}
-use Rattle.nfg_text.specs.Tokens.{Kind, unescaped, begins_with_quote}
+use Rattle.token_text.specs.Tokens.{Kind, ended, Token, Stream, first_or, next, rest}
+use Rattle.token_text.specs.Lexer.{kind_of, token_of}
+use Rattle.token_text.specs.declared.tokens.Lexeme.{Lexeme}
+use Rattle.token_text.specs.declared.tokens.LexemeKind.{LexemeKind}
+use Rattle.token_text.specs.declared.tokens.LexemeKind.TheVariants.{Open, Close, Quoted, Word, Unclosed, End}
+use Rattle.nfg_text.specs.Wanted.{is_end}
 use Rattle.nfg_text.specs.PlainFile.{is_digit, all_digits, digits_value}
-use Rattle.nfg_text.specs.Reading.{◌>>=◌, payoff_at, payoffs_at}
+use Rattle.nfg_text.specs.Reading.{◌>>=◌, kinds, payoff_at, payoffs_at}
 
 pub all_more : (w : List ℕ) (i b : ℕ) → i < length w → b ≡ get_or w i 0 → is_digit b ≡ true → all_digits (drop i w) ≡ all_digits (drop (i + 1) w)
 all_more w i b l e h =
@@ -35,11 +41,22 @@ small_fits v i h l =
     let c : 10 ^ 36 < 2 ^ 128 = lit< tt in
     omega arith
 
-pub unescaped_skip : (raw : List ℕ) (i : ℕ) → i < length raw → ((get_or raw i 0 == 92) && begins_with_quote (drop (i + 1) raw)) ≡ true → unescaped (drop i raw) ≡ unescaped (drop (i + 1) raw)
-unescaped_skip raw i l h = ap unescaped (drop_more raw i 0 l) ∙ rw h refl
+only_end : (k : LexemeKind) → kind_of k ≡ ended → k ≡ End
+only_end Open e = absurd (true≢false (sym (ap is_end e)))
+only_end Close e = absurd (true≢false (sym (ap is_end e)))
+only_end (Quoted t) e = absurd (true≢false (sym (ap is_end e)))
+only_end (Word w) e = absurd (true≢false (sym (ap is_end e)))
+only_end Unclosed e = absurd (true≢false (sym (ap is_end e)))
+only_end End e = refl
 
-pub unescaped_keep : (raw : List ℕ) (i : ℕ) → i < length raw → ((get_or raw i 0 == 92) && begins_with_quote (drop (i + 1) raw)) ≡ false → unescaped (drop i raw) ≡ get_or raw i 0 ∷ unescaped (drop (i + 1) raw)
-unescaped_keep raw i l h = ap unescaped (drop_more raw i 0 l) ∙ rw h refl
+first_left : (ts : List Token) (k : LexemeKind) (end : ℕ) → kind_of k ≡ (first_or (record { at = end; kind = ended }) ts).kind → (k ≡ End → ⊥) → map (λ t. t.kind) ts ≡ kind_of k ∷ map (λ t. t.kind) (drop 1 ts)
+first_left [] k end e n = absurd (n (only_end k e))
+first_left (t ∷ ts) k end e n = ap (λ k. k ∷ map (λ t. t.kind) ts) (sym e)
+
+-- a token that isn't the end is the first that is left
+pub taken_first : (s t : Stream) (l : Lexeme) → token_of l ≡ next s → t ≡ rest s → (l.kind ≡ End → ⊥) → kinds s ≡ kind_of l.kind ∷ kinds t
+unfolding next rest
+taken_first s t l e f n = first_left s.tokens l.kind s.end (ap (λ t. t.kind) e) n ∙ ap (λ t. kind_of l.kind ∷ kinds t) (sym f)
 
 abbrev pub before : List Ratio → Option (List Ratio) → Option (List Ratio)
 before xs o = option_map (λ ys. xs ++ ys) o

@@ -6,7 +6,7 @@ use Rattle.pay_frac.specs.Ratio.{Ratio}
 use Rattle.nfg_text.specs.declared.nfg.Nfg.{Nfg}
 use Rattle.nfg_text.specs.declared.nfg.NfgFault.{NfgFault}
 use Rattle.nfg_text.specs.declared.nfg.NfgFault.TheVariants.{Bad}
-use Rattle.nfg_text.specs.Tokens.{Kind, open_brace, close_brace, quoted, word, tokens_of}
+use Rattle.token_text.specs.Tokens.{Kind, open_brace, close_brace, quoted, word, stream_of}
 use Rattle.nfg_text.specs.PlainFile.{IsCount, IsPlainFile, payoff_of}
 use Rattle.nfg_text.specs.Reading.{◌>>=◌, Gives, kinds, title_at, names_at, counts_at, payoffs_at, Head, head_at, game_of, game_at}
 use Rattle.nfg_text.proofs.Spelled.{bind_then}
@@ -61,7 +61,7 @@ head_again tag title first_name second_name a b m n rest h p q =
     ∙ ap (λ o. o >>= λ n. counts_at n.2 >>= λ c. let h : Head = record { title = title; first_name = n.0; second_name = n.1; first_count = c.0; second_count = c.1 } in Some (h, c.2)) (names_again first_name second_name (open_brace ∷ word a ∷ word b ∷ close_brace ∷ rest))
     ∙ ap (λ o. o >>= λ c. let h : Head = record { title = title; first_name = first_name; second_name = second_name; first_count = c.0; second_count = c.1 } in Some (h, c.2)) (counts_again a b m n rest p q)
 
-plain : (bytes : List ℕ) (h : Head) (rest : List Kind) (ps : List Ratio) → HasHead (kinds (tokens_of bytes)) h rest → payoffs_at (2 * (h.first_count * h.second_count)) rest ≡ Some ps → IsPlainFile bytes (game_of h ps)
+plain : (bytes : List ℕ) (h : Head) (rest : List Kind) (ps : List Ratio) → HasHead (kinds (stream_of bytes)) h rest → payoffs_at (2 * (h.first_count * h.second_count)) rest ≡ Some ps → IsPlainFile bytes (game_of h ps)
 plain bytes h rest ps l e =
     let w = payoffs_is (2 * (h.first_count * h.second_count)) rest ps e in
     record {
@@ -87,14 +87,14 @@ plain bytes h rest ps l e =
       payoffs = λ k m. w.4 k (subst (λ x. k < x) w.2 m);
     }
 
-pub game_is : (bytes : List ℕ) (n : Nfg) → game_at (kinds (tokens_of bytes)) ≡ Some n → IsPlainFile bytes n
+pub game_is : (bytes : List ℕ) (n : Nfg) → game_at (kinds (stream_of bytes)) ≡ Some n → IsPlainFile bytes n
 unfolding game_at
 game_is bytes n e =
-    bind_then (head_at (kinds (tokens_of bytes))) (λ (h : Head × List Kind). payoffs_at (2 * (h.0.first_count * h.0.second_count)) h.1 >>= λ ps. Some (game_of h.0 ps)) n e (λ h p e.
+    bind_then (head_at (kinds (stream_of bytes))) (λ (h : Head × List Kind). payoffs_at (2 * (h.0.first_count * h.0.second_count)) h.1 >>= λ ps. Some (game_of h.0 ps)) n e (λ h p e.
     bind_then (payoffs_at (2 * (h.0.first_count * h.0.second_count)) h.1) (λ ps. Some (game_of h.0 ps)) n e (λ ps q e.
-    subst (IsPlainFile bytes) (same_Some _ n e) (plain bytes h.0 h.1 ps (head_is (kinds (tokens_of bytes)) h p) q)))
+    subst (IsPlainFile bytes) (same_Some _ n e) (plain bytes h.0 h.1 ps (head_is (kinds (stream_of bytes)) h p) q)))
 
-game_again : (bytes : List ℕ) (n : Nfg) → IsPlainFile bytes n → (m : Nfg) × (game_at (kinds (tokens_of bytes)) ≡ Some m)
+game_again : (bytes : List ℕ) (n : Nfg) → IsPlainFile bytes n → (m : Nfg) × (game_at (kinds (stream_of bytes)) ≡ Some m)
 unfolding game_at
 game_again bytes n f =
     let p = payoffs_again f.numbers (λ k. (payoff_of n k).num) (λ k l. (f.payoffs k l).0) in
@@ -107,14 +107,14 @@ game_again bytes n f =
           ∙ ap (λ o. o >>= λ ps. Some (game_of h ps)) q,
     )
 
-pub read_is_plain : (bytes : List ℕ) (r : Result Nfg NfgFault) → Gives (λ n. n) r (game_at (kinds (tokens_of bytes))) → IfOk r (λ n. IsPlainFile bytes n)
+pub read_is_plain : (bytes : List ℕ) (r : Result Nfg NfgFault) → Gives (λ n. n) r (game_at (kinds (stream_of bytes))) → IfOk r (λ n. IsPlainFile bytes n)
 read_is_plain bytes (Ok n) g = game_is bytes n g
 read_is_plain bytes (Err e) g = tt
 
-pub none_is_not_plain : (bytes : List ℕ) → game_at (kinds (tokens_of bytes)) ≡ None → (n : Nfg) → IsPlainFile bytes n → ⊥
+pub none_is_not_plain : (bytes : List ℕ) → game_at (kinds (stream_of bytes)) ≡ None → (n : Nfg) → IsPlainFile bytes n → ⊥
 none_is_not_plain bytes e n f = let m = game_again bytes n f in none-some m.0 (sym e ∙ m.1)
 
-pub bad_is_none : (bytes : List ℕ) (r : Result Nfg NfgFault) (at : ℕ) → Gives (λ n. n) r (game_at (kinds (tokens_of bytes))) → r ≡ Err (Bad at) → (at ≡ 0) × ((n : Nfg) → IsPlainFile bytes n → ⊥)
+pub bad_is_none : (bytes : List ℕ) (r : Result Nfg NfgFault) (at : ℕ) → Gives (λ n. n) r (game_at (kinds (stream_of bytes))) → r ≡ Err (Bad at) → (at ≡ 0) × ((n : Nfg) → IsPlainFile bytes n → ⊥)
 bad_is_none bytes r at g e =
-    let none = subst (λ r. Gives (λ n. n) r (game_at (kinds (tokens_of bytes)))) e g in
+    let none = subst (λ r. Gives (λ n. n) r (game_at (kinds (stream_of bytes)))) e g in
     (none.0, none_is_not_plain bytes none.1)

@@ -1,10 +1,7 @@
 pub mod Canonical
 pub mod Grammar
-pub mod Lexer
-pub mod LexerInside
 pub mod PlainFile
 pub mod Reading
 pub mod ReadingViews
-pub mod Tokens
 pub mod Worked
 pub mod Wanted

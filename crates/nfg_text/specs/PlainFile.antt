@@ -4,7 +4,7 @@ use Rattle.std.specs.Int.RustNames.{unsigned_abs}
 use Rattle.pay_frac.specs.Ratio.{Ratio}
 use Rattle.nfg_text.specs.declared.nfg.Nfg.{Nfg}
 use Rattle.nfg_text.specs.declared.nfg.Strategies.TheVariants.{Counts}
-use Rattle.nfg_text.specs.Tokens.{open_brace, close_brace, quoted, word, tokens_of}
+use Rattle.token_text.specs.Tokens.{open_brace, close_brace, quoted, word, stream_of}
 
 -- a decimal digit
 abbrev pub is_digit : ℕ → Bool
@@ -52,7 +52,7 @@ pub record IsPlainFile (bytes : List ℕ) (n : Nfg) : Type 0 where
   pub first_strategies : ℕ
   pub second_strategies : ℕ
   pub numbers : List (List ℕ)
-  pub shape : map (λ t. t.kind) (tokens_of bytes) ≡
+  pub shape : map (λ t. t.kind) (stream_of bytes).tokens ≡
       word (codes "NFG") ∷ word (codes "1") ∷ word tag ∷ quoted n.title
       ∷ open_brace ∷ quoted first_name ∷ quoted second_name ∷ close_brace
       ∷ open_brace ∷ word first_count ∷ word second_count ∷ close_brace ∷ map word numbers

@@ -1,5 +1,5 @@
 -- Reading a plain file from left to right, part by part. A part is a value and the tokens after it.
-use Rattle.std.specs.Prelude.{◌≡◌, ℕ, zero, suc, ◌*◌, ◌^◌, ◌==◌, ◌&&◌, ◌||◌, nat_le, Bool, if◌then◌else◌, List, [], ◌∷◌, length, map, codes, Option, Some, None, Result, Ok, Err, ℤ, pos, neg_ℤ}
+use Rattle.std.specs.Prelude.{◌≡◌, ℕ, zero, suc, ◌*◌, ◌^◌, ◌==◌, ◌&&◌, ◌||◌, nat_le, Bool, if◌then◌else◌, List, [], ◌∷◌, length, map, codes, Option, Some, None, MatchOption, Result, Ok, Err, ℤ, pos, neg_ℤ}
 use Rattle.std.specs.Option.{option_map}
 use Rattle.std.specs.Str.{bytes_eq}
 use Rattle.pay_frac.specs.Ratio.{Ratio}
@@ -7,7 +7,9 @@ use Rattle.nfg_text.specs.declared.nfg.Nfg.{Nfg}
 use Rattle.nfg_text.specs.declared.nfg.NfgFault.{NfgFault}
 use Rattle.nfg_text.specs.declared.nfg.NfgFault.TheVariants as fault
 use Rattle.nfg_text.specs.declared.nfg.Strategies.TheVariants.{Counts}
-use Rattle.nfg_text.specs.Tokens.{Token, Kind, open_brace, close_brace, quoted, word, unclosed}
+use Rattle.token_text.specs.Tokens.{Kind, open_brace, close_brace, quoted, word, unclosed, ended, Stream}
+use Rattle.token_text.specs.declared.tokens.LexemeKind.{LexemeKind}
+use Rattle.token_text.specs.Lexer.{kind_of}
 use Rattle.nfg_text.specs.PlainFile.{all_digits, digits_value}
 
 infixl 10 ◌>>=◌
@@ -24,8 +26,12 @@ abbrev pub Gives : {X Y : Type 0} → (X → Y) → Result X NfgFault → Option
 Gives view (Ok x) read = read ≡ Some (view x)
 Gives view (Err e) read = Fails e read
 
-abbrev pub kinds : List Token → List Kind
-kinds ts = map (λ t. t.kind) ts
+abbrev pub kinds : Stream → List Kind
+kinds s = map (λ t. t.kind) s.tokens
+
+-- of the tokens `before`, the answer is the first and `after` the rest
+abbrev pub Yields : List Kind → Option LexemeKind → List Kind → Type 0
+Yields before answer after = MatchOption answer (before ≡ []) (λ k. before ≡ kind_of k ∷ after)
 
 abbrev pub whole_of : List ℕ → Option ℕ
 whole_of w = if nat_le 1 (length w) && nat_le (length w) 36 && all_digits w then Some (digits_value 0 w) else None
@@ -47,6 +53,7 @@ open_at (close_brace ∷ ks) = None
 open_at (quoted t ∷ ks) = None
 open_at (word w ∷ ks) = None
 open_at (unclosed ∷ ks) = None
+open_at (ended ∷ ks) = None
 
 abbrev pub close_at : List Kind → Option (List Kind)
 close_at [] = None
@@ -55,6 +62,7 @@ close_at (close_brace ∷ ks) = Some ks
 close_at (quoted t ∷ ks) = None
 close_at (word w ∷ ks) = None
 close_at (unclosed ∷ ks) = None
+close_at (ended ∷ ks) = None
 
 abbrev pub quoted_at : List Kind → Option (List ℕ × List Kind)
 quoted_at [] = None
@@ -63,6 +71,7 @@ quoted_at (close_brace ∷ ks) = None
 quoted_at (quoted t ∷ ks) = Some (t, ks)
 quoted_at (word w ∷ ks) = None
 quoted_at (unclosed ∷ ks) = None
+quoted_at (ended ∷ ks) = None
 
 abbrev pub word_at : List Kind → Option (List ℕ × List Kind)
 word_at [] = None
@@ -71,6 +80,7 @@ word_at (close_brace ∷ ks) = None
 word_at (quoted t ∷ ks) = None
 word_at (word w ∷ ks) = Some (w, ks)
 word_at (unclosed ∷ ks) = None
+word_at (ended ∷ ks) = None
 
 abbrev pub is_tag : List ℕ → Bool
 is_tag w = bytes_eq w (codes "R") || bytes_eq w (codes "D")

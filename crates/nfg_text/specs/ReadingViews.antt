@@ -1,6 +1,6 @@
 -- A head that was read, without where it lies in memory.
 use Rattle.nfg_text.specs.declared.reading.Opening.{Opening}
-use Rattle.nfg_text.specs.Tokens.{unescaped}
+use Rattle.token_text.specs.Tokens.{unescaped}
 use Rattle.nfg_text.specs.Reading.{Head}
 
 abbrev pub head_of : Opening → Head

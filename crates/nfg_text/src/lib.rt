@@ -7,17 +7,15 @@ mod nfg;
 mod numbers;
 pub mod outcomes;
 mod reading;
-mod tokens;
 pub mod wants;
 mod what;
 mod worked;
 pub mod writing;
 
-pub use nfg::{Nfg, NfgFault, Strategies, Text};
+pub use nfg::{Nfg, NfgFault, Strategies};
 pub use reading::read_nfg;
-pub use tokens::{Lexeme, LexemeKind, Lexer};
 pub use what::What;
-pub use worked::{faults_of_files, plain_file, token_places};
+pub use worked::{faults_of_files, plain_file};
 
 #[cfg(test)]
 mod gambit_tests;

@@ -5,9 +5,7 @@ use game_model::List;
 use pay_frac::Frac;
 use std::alloc::AllocError;
 use thiserror::Error;
-
-/// The bytes of a quoted text, which needn't be UTF-8.
-pub type Text = List<u8>;
+use token_text::Text;
 
 /// The strategies of each player, as the file gives them.
 #[derive(Drop)]

@@ -1,20 +1,20 @@
 //! Reading a strategic form from its tokens.
 
-ghost use Rattle.std.specs.Prelude.{◌≡◌, ◌+◌, ◌*◌, ◌<◌, ◌≤◌, ◌^◌, [], ◌∷◌, ◌++◌, ◌==◌, ◌&&◌, length, drop, slice_index, option_map, pos, ℕ, IfOk, IfErr, IfSome, OnOk};
+ghost use Rattle.std.specs.Prelude.{◌≡◌, ◌*◌, ◌≤◌, ◌^◌, option_map, pos, ℕ, IfOk, IfErr, IfSome};
 ghost use Rattle.nfg_text.specs.declared.nfg.Nfg.{Nfg as Game};
-ghost use Rattle.nfg_text.specs.Tokens.{unescaped, begins_with_quote, tokens_of};
+ghost use Rattle.token_text.specs.Tokens.{unescaped, stream_of};
 ghost use Rattle.nfg_text.specs.PlainFile.{IsPlainFile};
-ghost use Rattle.nfg_text.specs.Reading.{Gives, kinds, open_at, close_at, quoted_at, word_at, exact_at, tag_at, title_at, names_at, count_at, counts_at, payoff_at, payoffs_at, head_at, game_of, game_at};
+ghost use Rattle.nfg_text.specs.Reading.{Gives, Yields, kinds, open_at, close_at, quoted_at, word_at, exact_at, tag_at, title_at, names_at, count_at, counts_at, payoff_at, payoffs_at, head_at, game_of, game_at};
 ghost use Rattle.std.specs.Int.RustNames.{unsigned_abs};
 ghost use Rattle.nfg_text.specs.declared.nfg.NfgFault.TheVariants.{Bad, NoMemory};
 ghost use Rattle.nfg_text.specs.ReadingViews.{head_of};
 
-use crate::nfg::{Nfg, NfgFault, Strategies, Text};
+use crate::nfg::{Nfg, NfgFault, Strategies};
 use crate::numbers::{count, payoff};
-use crate::tokens::{LexemeKind, Lexer};
 use game_model::List;
 use pay_frac::Frac;
 use std::alloc::Global;
+use token_text::{LexemeKind, Lexer, put, text};
 
 /// What stands before the payoffs. The texts are raw.
 #[derive(Clone, Copy, Drop)]
@@ -41,7 +41,7 @@ pub fn read_nfg(alloc: Global, bytes: &[u8]) -> Result<Nfg, NfgFault>
 
 #[tactic(auto, unfolding(crate::specs::Reading::game_at))]
 fn game(alloc: Global, bytes: &[u8]) -> Result<Nfg, NfgFault>
-    ensures { Gives (λ n. n) result (game_at (kinds (tokens_of bytes.now))) }
+    ensures { Gives (λ n. n) result (game_at (kinds (stream_of bytes.now))) }
 {
     let mut tokens = Lexer::of(bytes);
     let Some(opening) = head(&mut tokens) else {
@@ -73,10 +73,20 @@ fn stored(alloc: Global, opening: &Opening<'_>, payoffs: List<Frac>) -> Result<N
     })
 }
 
+/// The next token, unless none is left.
+fn next<'a>(tokens: &mut Lexer<'a>) -> Option<LexemeKind<'a>>
+    ensures { Yields (kinds tokens.old) result (kinds tokens.new) }
+{
+    match tokens.next_token().kind {
+        LexemeKind::End => None,
+        kind => Some(kind),
+    }
+}
+
 fn open(tokens: &mut Lexer<'_>) -> Option<()>
     ensures { open_at (kinds tokens.old) ≡ option_map (λ _. kinds tokens.new) result }
 {
-    match tokens.next_token()?.kind {
+    match next(tokens)? {
         LexemeKind::Open => Some(()),
         _ => None,
     }
@@ -85,7 +95,7 @@ fn open(tokens: &mut Lexer<'_>) -> Option<()>
 fn close(tokens: &mut Lexer<'_>) -> Option<()>
     ensures { close_at (kinds tokens.old) ≡ option_map (λ _. kinds tokens.new) result }
 {
-    match tokens.next_token()?.kind {
+    match next(tokens)? {
         LexemeKind::Close => Some(()),
         _ => None,
     }
@@ -95,7 +105,7 @@ fn close(tokens: &mut Lexer<'_>) -> Option<()>
 fn quoted<'a>(tokens: &mut Lexer<'a>) -> Option<&'a [u8]>
     ensures { quoted_at (kinds tokens.old) ≡ option_map (λ t. (unescaped t.now, kinds tokens.new)) result }
 {
-    match tokens.next_token()?.kind {
+    match next(tokens)? {
         LexemeKind::Quoted(text) => Some(text),
         _ => None,
     }
@@ -104,7 +114,7 @@ fn quoted<'a>(tokens: &mut Lexer<'a>) -> Option<&'a [u8]>
 fn word<'a>(tokens: &mut Lexer<'a>) -> Option<&'a [u8]>
     ensures { word_at (kinds tokens.old) ≡ option_map (λ w. (w.now, kinds tokens.new)) result }
 {
-    match tokens.next_token()?.kind {
+    match next(tokens)? {
         LexemeKind::Word(word) => Some(word),
         _ => None,
     }
@@ -226,42 +236,8 @@ fn payoffs(alloc: Global, tokens: &mut Lexer<'_>, numbers: u32) -> Result<List<F
             None => return Err(NfgFault::Bad { at: 0 }),
         }
     }
-    match tokens.next_token() {
+    match next(tokens) {
         None => Ok(read),
         Some(_) => Err(NfgFault::Bad { at: 0 }),
     }
-}
-
-/// The text between two quotes, without the backslashes before quotes.
-fn text(alloc: Global, raw: &[u8]) -> Result<Text, NfgFault>
-    ensures kept { IfOk result (λ t. t ≡ unescaped raw.now) }
-    ensures memory { IfErr result (λ e. e ≡ NoMemory) }
-{
-    let mut text = List::new(alloc);
-    for (i, byte) in raw.iter().enumerate() {
-        if !escapes(raw, i) {
-            put(&mut text, *byte)?;
-        }
-    }
-    Ok(text)
-}
-
-/// Whether byte `i` is a backslash before a quote.
-fn escapes(raw: &[u8], i: usize) -> bool
-    requires { i < length raw.now }
-    ensures { result ≡ ((slice_index raw.now i == 92) && begins_with_quote (drop (i + 1) raw.now)) }
-{
-    raw[i] == b'\\' && raw[i + 1..].first() == Some(&b'"')
-}
-
-/// Adds an item at the end of the list.
-fn put<T: Drop>(list: &mut List<T>, item: T) -> Result<(), NfgFault>
-    ensures kept { OnOk result (list.new ≡ list.old ++ item ∷ []) }
-    ensures memory { IfErr result (λ e. e ≡ NoMemory) }
-{
-    if list.len() == u32::MAX {
-        return Err(NfgFault::NoMemory);
-    }
-    list.push(item)?;
-    Ok(())
 }

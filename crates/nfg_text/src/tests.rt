@@ -1,7 +1,8 @@
-use crate::{Nfg, NfgFault, Strategies, Text, read_nfg};
+use crate::{Nfg, NfgFault, Strategies, read_nfg};
 use game_model::List;
 use pay_frac::Frac;
 use std::alloc::Global;
+use token_text::Text;
 
 struct Row {
     file: &'static [u8],

@@ -1,19 +1,12 @@
 //! Worked rows, which show that the definitions say what is meant.
 
-ghost use Rattle.std.specs.Prelude.{◌≡◌, [], ◌∷◌, ◌++◌, codes, map, pos, Ok, Err};
+ghost use Rattle.std.specs.Prelude.{◌≡◌, codes, pos, Ok, Err};
 ghost use Rattle.nfg_text.specs.declared.nfg.Nfg.{Nfg};
-ghost use Rattle.nfg_text.specs.Tokens.{open_brace, close_brace, quoted, word, unclosed, tokens_of};
 ghost use Rattle.nfg_text.specs.PlainFile.{IsPlainFile};
 ghost use Rattle.nfg_text.specs.Worked.{prisoners_dilemma};
 ghost use Rattle.nfg_text.specs.Grammar.{nfg_of};
 ghost use Rattle.nfg_text.specs.declared.fault.NfgFault.TheVariants.{Bad, Limit};
 ghost use Rattle.nfg_text.specs.declared.what.What.TheVariants.{Digits, Players};
-
-/// A law: the tokens of two lines, `NFG,1 R{"a\"b,c"}x{` and `"\`, by their kinds and places.
-pub fn token_places()
-    ensures kinds { map (λ t. t.kind) (tokens_of (codes "NFG,1 R{\"a\\\"b,c\"}x{\n\"\\")) ≡ word (codes "NFG") ∷ word (codes "1") ∷ word (codes "R") ∷ open_brace ∷ quoted (codes "a\"b,c") ∷ close_brace ∷ word (codes "x") ∷ open_brace ∷ unclosed ∷ [] }
-    ensures places { map (λ t. t.at) (tokens_of (codes "NFG,1 R{\"a\\\"b,c\"}x{\n\"\\")) ≡ 0 ∷ 4 ∷ 6 ∷ 7 ∷ 8 ∷ 16 ∷ 17 ∷ 18 ∷ 20 ∷ [] }
-{}
 
 /// A law: the file of the prisoner's dilemma is plain, and isn't once its last payoff is cut off or another
 /// follows.

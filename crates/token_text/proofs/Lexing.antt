@@ -3,8 +3,9 @@ use Rattle.std.proofs.Common.{◌≡◌, ℕ, zero, suc, ◌+◌, ◌-◌, ◌<�
 use Rattle.std.specs.Option.{option_map}
 use Rattle.std.specs.List.{prefix_len}
 use Rattle.std.proofs.lemmas.List.{append-nil, nil_from_length, drop_more, take_more, drop_all}
+use Rattle.std.proofs.lemmas.Bool.{true≢false}
 use Rattle.std.proofs.lemmas.List.Sums.{prefix_len_stops}
-use Rattle.token_text.specs.Tokens.{ended, Stream, stream_from, first_or, next, rest, Token, is_blank, is_word_byte, quoted_bytes, after_quoted, kind_at, bytes_after, tokens_from}
+use Rattle.token_text.specs.Tokens.{Kind, open_brace, close_brace, word, ended, quoted_kind, Stream, stream_from, first_or, next, rest, Token, is_blank, is_word_byte, quoted_bytes, after_quoted, kind_at, bytes_after, tokens_from}
 
 -- what is found behind the bytes xs
 abbrev pub behind : List ℕ → Option (List ℕ × List ℕ) → Option (List ℕ × List ℕ)
@@ -142,6 +143,26 @@ next_some at bytes rest after e l f =
     let h : is_blank (get_or rest 0 0) ≡ false = ap is_blank g ∙ prefix_len_stops is_blank bytes 0 i in
     let a : at + k ≡ at + (length bytes - length rest) = omega arith in
     tokens_behind_blanks at bytes k refl ∙ ap (λ x. tokens_from (length x) (at + k) x) (sym e) ∙ ap (λ x. tokens_from (length rest) x rest) a ∙ first_is (at + (length bytes - length rest)) rest after l h f
+
+abbrev is_end : Kind → Bool
+is_end ended = true
+is_end _ = false
+
+quoted_goes_on : (o : Option (List ℕ × List ℕ)) → is_end (quoted_kind o) ≡ false
+quoted_goes_on None = refl
+quoted_goes_on (Some r) = refl
+
+-- a byte begins a token
+pub kind_is_no_end : (b : ℕ) (bs : List ℕ) → kind_at b bs ≡ ended → ⊥
+kind_is_no_end b bs e =
+    let Word : Kind = word (b ∷ take (prefix_len is_word_byte bs) bs) in
+    let Quoted : Kind = quoted_kind (quoted_bytes 34 bs) in
+    let third : is_end (if b == 34 then Quoted else Word) ≡ false = elim (b == 34) as (λ v. is_end (if v then Quoted else Word) ≡ false) [ true ↦ quoted_goes_on (quoted_bytes 34 bs) | false ↦ refl ] in
+    let second : is_end (if b == 125 then close_brace else if b == 34 then Quoted else Word) ≡ false =
+    elim (b == 125) as (λ v. is_end (if v then close_brace else if b == 34 then Quoted else Word) ≡ false) [ true ↦ refl | false ↦ third ] in
+    let first : is_end (kind_at b bs) ≡ false =
+    elim (b == 123) as (λ v. is_end (if v then open_brace else if b == 125 then close_brace else if b == 34 then Quoted else Word) ≡ false) [ true ↦ refl | false ↦ second ] in
+    true≢false (sym (ap is_end e) ∙ first)
 
 -- ---- the next token of a stream, and what is left behind it
 pub end_next : (at place : ℕ) (bytes : List ℕ) → tokens_from (length bytes) at bytes ≡ [] → place ≡ at + length bytes → record { at = place; kind = ended } ≡ next (stream_from at bytes)

@@ -1,8 +1,8 @@
 //! The tokens of a text: braces, quoted texts and words, with blanks between.
 
-ghost use Rattle.std.specs.Prelude.{◌≡◌, ◌<◌, ◌≤◌, ◌+◌, ◌-◌, ◌^◌, length, take, drop, slice_index, option_map, Some, MatchOption};
+ghost use Rattle.std.specs.Prelude.{◌≡◌, [], ◌<◌, ◌≤◌, ◌+◌, ◌-◌, ◌^◌, length, take, drop, slice_index, option_map, Some, MatchOption};
 ghost use Rattle.std.specs.List.{prefix_len};
-ghost use Rattle.token_text.specs.Tokens.{is_blank, is_word_byte, quoted_bytes, kind_at, bytes_after, stream_from, stream_of, next, rest as tokens_after};
+ghost use Rattle.token_text.specs.Tokens.{is_blank, is_word_byte, quoted_bytes, kind_at, bytes_after, ended, stream_from, stream_of, next, rest as tokens_after};
 ghost use Rattle.token_text.specs.Lexer.{kind_of, token_of};
 
 use std::marker::Model;
@@ -60,7 +60,8 @@ impl<'a> Lexer<'a> {
 
     /// The next token, which is left where it is.
     pub fn peek(&self) -> Lexeme<'a>
-        ensures { token_of result ≡ next self.now }
+        ensures token { token_of result ≡ next self.now }
+        ensures end { kind_of result.kind ≡ ended → self.now.tokens ≡ [] }
     {
         first_token(self.rest, self.at).0
     }
@@ -68,6 +69,7 @@ impl<'a> Lexer<'a> {
     /// Takes the next token. At the end this is the end, again and again.
     pub fn next_token(&mut self) -> Lexeme<'a>
         ensures token { token_of result ≡ next self.old }
+        ensures end { kind_of result.kind ≡ ended → self.old.tokens ≡ [] }
         ensures rest { self.new ≡ tokens_after self.old }
     {
         let (token, rest) = first_token(self.rest, self.at);
@@ -81,6 +83,7 @@ impl<'a> Lexer<'a> {
 fn first_token(bytes: &[u8], at: u64) -> (Lexeme<'_>, &[u8])
     requires { at + length bytes.now < 2 ^ 64 }
     ensures token { token_of result.0 ≡ next (stream_from at bytes.now) }
+    ensures end { kind_of result.0.kind ≡ ended → (stream_from at bytes.now).tokens ≡ [] }
     ensures rest { stream_from (at + (length bytes.now - length result.1.now)) result.1.now ≡ tokens_after (stream_from at bytes.now) }
     ensures no_longer { length result.1.now ≤ length bytes.now }
 {

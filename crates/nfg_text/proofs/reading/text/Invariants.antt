@@ -1,6 +1,0 @@
-use Rattle.std.proofs.Common.{◌≡◌, ◌++◌, drop}
-use Rattle.nfg_text.specs.Tokens.{unescaped}
-use Rattle.nfg_text.proofs.reading.text.Given as goal
-
-abbrev pub invariant-loop-i : goal.invariant-loop-i
-invariant-loop-i l = unescaped l.raw ≡ l.text ++ unescaped (drop l.i l.raw)
