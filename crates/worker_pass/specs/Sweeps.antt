@@ -20,7 +20,7 @@ pub record HoldsButFirst (t u : Table) : Type 0 where
   pub first : AtMost (level_at u 0) (level_at t 0)
   pub others : (r : ℕ) → r ≢ 0 → level_at u r ≡ level_at t r
 
--- What a sweep makes of the owner, and the table t that it leaves: what the owner loaded, with Empty in each row that was cleared.
+-- What a sweep makes of the owner, and the table t that it leaves: what the owner had seen after the passes joined, with Empty in each row that was cleared.
 pub record IsSweep (f : Frame) (old new : OwnerView) (t : Table) (note : SweepNote) : Type 0 where
   pub loaded : Table
   pub fell : IsFallen old.seen loaded

@@ -22,7 +22,7 @@ IsLowering f t v v' row (notes.Lowered level) =
 IsLowering f t v v' row notes.WasEmpty = ⊥
 IsLowering f t v v' row notes.NothingAdmissible = IsRowLevelOf f t row Empty × (v' ≡ v)
 
--- What the answer says: the row was loaded Empty; or nothing is admissible under what was loaded; or the row was lowered to the row level of what was loaded.
+-- What the answer says: the row is Empty in the table; or nothing is admissible under the table; or the row was lowered to its row level under the table.
 abbrev pub IsAnswer : Frame → Table → Table → ℕ → UpdateNote → Type 0
 IsAnswer f t v' row (notes.Lowered level) =
     IsNumber (level_at t row) × IsRowLevelOf f t row (At level) × AtMost (level_at v' row) (At level)
@@ -30,12 +30,12 @@ IsAnswer f t v' row notes.WasEmpty = (level_at t row ≡ Empty) × (level_at v' 
 IsAnswer f t v' row notes.NothingAdmissible =
     IsNumber (level_at t row) × IsRowLevelOf f t row Empty × (level_at v' row ≡ level_at t row)
 
--- The pass had seen v and has then seen v', and the table holds what was loaded.
+-- The pass had seen v and has then seen v', and the table is what the row was lowered under: the row as it was seen before that, and what has then been seen of the states that follow. No clause says how new it is; that rows are loaded for it is tested.
 pub record IsUpdated (f : Frame) (v v' t : Table) (row : ℕ) (note : UpdateNote) : Type 0 where
   pub fallen : IsFallen v v'
   pub loaded : AtMost (level_at t row) (level_at v row)
   pub lowered : AtMost (level_at v' row) (level_at t row)
-  -- each row of a state that follows was loaded
+  -- the table has what was seen in each row of a state that follows
   pub held : IsNumber (level_at t row) → (r : ℕ) → r ≢ row → FollowsRow f row r → level_at t r ≡ level_at v' r
   -- no other row is lowered
   pub others : (r : ℕ) → (level_at v' r ≡ level_at v r) ⊎ ((r ≡ row) ⊎ (level_at t r ≡ level_at v' r))
