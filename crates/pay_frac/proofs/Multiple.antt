@@ -1,5 +1,5 @@
 -- The least common multiple of signed numbers, as the code forms it.
-use Rattle.std.proofs.Common.{◌≡◌, ℕ, ◌*◌, ◌/◌, ◌<◌, refl, sym, ap, subst, ◌∙◌, arith}
+use Rattle.std.proofs.Common.{◌≡◌, ℕ, ◌*◌, ◌/◌, ◌<◌, min, refl, sym, ap, subst, ◌∙◌, arith}
 use Rattle.std.specs.Prelude.{ℤ, pos, negsuc, ◌*ℤ◌, ◌<ℤ◌}
 use Rattle.std.specs.Int.RustNames.{int_div, FitsSigned, unsigned_abs}
 use Rattle.std.specs.Int.{IsGcd, w128}
@@ -53,3 +53,15 @@ product_positive a b g product h k l d x =
     let q : 0 < unsigned_abs b = omega (arith, ints) in
     let r : 0 < multiple_of a b g = positive_product (unsigned_abs a / unsigned_abs g) (unsigned_abs b) (positive_quotient (unsigned_abs a) (unsigned_abs g) p (omega (arith, ints)) d.0) q in
     subst (λ z. pos 0 <ℤ z) (sym (x ∙ formed a b g h k l)) (omega (arith, ints))
+
+quotient_abs : (a g : ℤ) → pos 0 <ℤ a → pos 0 <ℤ g → unsigned_abs (int_div a g) ≡ unsigned_abs a / unsigned_abs g
+quotient_abs (pos a) (pos g) h l = refl
+quotient_abs (pos a) (negsuc g) h l = absurd (omega (arith, ints))
+quotient_abs (negsuc a) g h l = absurd (omega (arith, ints))
+
+-- the capped product of a quotient by the common divisor and the other number is the capped multiple
+pub capped_from_product : (a b g result : ℤ) (most : ℕ) → pos 0 <ℤ a → pos 0 <ℤ b → pos 0 <ℤ g
+    → IsGcd (unsigned_abs a) (unsigned_abs b) (unsigned_abs g) → result ≡ pos (min (unsigned_abs (int_div a g) * unsigned_abs b) most)
+    → (m : ℕ) × IsLcm (unsigned_abs a) (unsigned_abs b) m × (result ≡ pos (min m most))
+capped_from_product a b g result most h k l d e =
+    (multiple_of a b g, is_multiple a b g l d, e ∙ ap (λ n. pos (min (n * unsigned_abs b) most)) (quotient_abs a g h l))

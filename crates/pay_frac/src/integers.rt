@@ -4,7 +4,7 @@ ghost use Rattle.exact_algebra.specs.Quotients.{IsCeiling, IsFloor};
 ghost use Rattle.pay_frac.specs.Whole.{IsLcm};
 ghost use Rattle.std.specs.Int.RustNames.{unsigned_abs};
 ghost use Rattle.std.specs.Int.{IsGcd};
-ghost use Rattle.std.specs.Prelude.{ℕ, ◌<ℤ◌, ◌<◌, ◌+◌, ◌≤ℤ◌, MatchOption, pos};
+ghost use Rattle.std.specs.Prelude.{ℕ, ◌≡◌, ◌<ℤ◌, ◌<◌, ◌+◌, ◌-◌, ◌*◌, ◌^◌, ◌≤ℤ◌, MatchOption, min, pos};
 
 /// The least whole number that is not below `n / d`.
 pub fn ceil_div(n: i128, d: i128) -> i128
@@ -59,4 +59,25 @@ pub fn lcm(a: i128, b: i128, bound: i128) -> Option<i128>
     } else {
         Some(multiple)
     }
+}
+
+/// The product of two numbers that are not negative, or 2^127 - 1 where it is greater.
+pub fn capped_product(a: i128, b: i128) -> i128
+    requires not_negative_a { pos 0 ≤ℤ a }
+    requires not_negative_b { pos 0 ≤ℤ b }
+    ensures { result ≡ pos (min (unsigned_abs a * unsigned_abs b) (2 ^ 127 - 1)) }
+{
+    match a.checked_mul(b) {
+        Some(product) => product,
+        None => i128::MAX,
+    }
+}
+
+/// The least common multiple of two positive numbers, or 2^127 - 1 where it is greater.
+pub fn capped_multiple(a: i128, b: i128) -> i128
+    requires positive_a { pos 0 <ℤ a }
+    requires positive_b { pos 0 <ℤ b }
+    ensures { (m : ℕ) × IsLcm (unsigned_abs a) (unsigned_abs b) m × (result ≡ pos (min m (2 ^ 127 - 1))) }
+{
+    capped_product(a / gcd(a, b), b)
 }

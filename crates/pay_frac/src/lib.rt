@@ -6,7 +6,7 @@ mod integers;
 mod numbers;
 
 pub use fractions::{Frac, add, at_most, equal_in_lowest_terms, mul, small};
-pub use integers::{ceil_div, floor_div, gcd, lcm};
+pub use integers::{capped_multiple, capped_product, ceil_div, floor_div, gcd, lcm};
 pub use numbers::{NumberFault, read_capped, read_digits, read_number};
 
 #[cfg(test)]

@@ -4,6 +4,11 @@ use super::*;
 fn multiples_and_quotients(rt: HostRuntime) {
     assert_eq!(rt; lcm(6, 4, 12), Some(12));
     assert_eq!(rt; lcm(6, 4, 11), None);
+    assert_eq!(rt; capped_multiple(6, 4), 12);
+    assert_eq!(rt; capped_multiple(1 << 100, 3), 3 << 100);
+    assert_eq!(rt; capped_multiple(1 << 126, 3), i128::MAX);
+    assert_eq!(rt; capped_product(1 << 63, 1 << 63), 1 << 126);
+    assert_eq!(rt; capped_product(1 << 64, 1 << 63), i128::MAX);
     assert_eq!(rt; gcd(6, 4), 2);
     assert_eq!(rt; ceil_div(-31, 2), -15);
     assert_eq!(rt; floor_div(-31, 2), -16);
