@@ -1,5 +1,5 @@
 -- The number that a token spells, as a function of the token.
-use Rattle.std.proofs.Common.{◌≡◌, ◌≢◌, ℕ, zero, suc, ◌%◌, ◌<◌, ◌≤◌, ◌^◌, ◌==◌, Bool, true, false, if◌then◌else◌, List, [], ◌∷◌, get_or, Option, Some, None, Result, Ok, Err, refl, sym, ap, subst, ◌∙◌, arith}
+use Rattle.std.proofs.Common.{lit<, ◌≡◌, ◌≢◌, ℕ, zero, suc, ◌+◌, ◌++◌, length, ◌%◌, ◌<◌, ◌≤◌, ◌^◌, ◌==◌, Bool, true, false, if◌then◌else◌, List, [], ◌∷◌, get_or, Option, Some, None, Result, Ok, Err, refl, sym, ap, subst, ◌∙◌, arith}
 use Rattle.std.specs.Prelude.{ℤ, pos, ◌*ℤ◌, ◌<ℤ◌, IsOkAnd, nat_lt}
 use Rattle.std.specs.Option.{option_map}
 use Rattle.std.specs.Int.RustNames.{unsigned_abs}
@@ -14,11 +14,15 @@ use Rattle.exact_algebra.proofs.Order.{same_from_times}
 use Rattle.pay_frac.specs.declared.numbers.NumberFault.{NumberFault}
 use Rattle.pay_frac.specs.declared.numbers.NumberFault.TheVariants.{NotNumber, Beyond}
 use Rattle.pay_frac.specs.Ratio.{Ratio, IsLowest, Equals}
-use Rattle.pay_frac.specs.Spelling.{Form, form_text, form_num, form_den, IsForm, Spelling, Spells, signed_text, signed_num, spelled_num, spelled_den, digit_count}
+use Rattle.pay_frac.specs.Spelling.{Form, whole, decimal, fraction, form_text, form_num, form_den, IsForm, Spelling, Spells, signed_text, signed_num, spelled_num, spelled_den, digit_count}
 use Rattle.pay_frac.specs.Number.{form_after, spelling_of, euclid, lowest, number_from, number_of}
 use Rattle.pay_frac.proofs.Deciding.{found, form_again}
-use Rattle.pay_frac.proofs.Forms.{count_form, form_digits, form_num_small, form_den_small, form_den_positive}
-use Rattle.pay_frac.proofs.Reduce.{divisor_positive, reduced_by, lowest_same}
+use Rattle.std.proofs.Math.Nat.{pow-le-pow_right}
+use Rattle.std.proofs.lemmas.List.{length-append}
+use Rattle.std.specs.Str.Parse.{AllDigits, digits_value}
+use Rattle.pay_frac.proofs.Digits.{after_below}
+use Rattle.pay_frac.proofs.Forms.{all_append, count_form, form_digits, form_num_small, form_den_small, form_den_positive}
+use Rattle.pay_frac.proofs.Reduce.{divisor_positive, no_greater, reduced_by, lowest_same}
 use Rattle.pay_frac.proofs.Spellings.{unsigned_start, digit_count_signed}
 
 minus_is : (b : ℕ) → (b == 45) ≡ true → b ≡ 45
@@ -138,3 +142,74 @@ number_exact token r none many some =
           cases (nat_lt 36 (digit_count token)) refl
     ] in
     by (spelling_of token) refl
+
+-- ---- sizes of what is read
+power_short : (n : ℕ) → n ≤ 36 → 10 ^ n ≤ 10 ^ 36
+power_short n l = pow-le-pow_right (lit< tt) l
+
+value_short : (ds : List ℕ) → AllDigits 10 ds → length ds ≤ 36 → digits_value 10 ds ≤ 10 ^ 36
+value_short ds a l =
+    let b : digits_value 10 ds < 10 ^ (0 + length ds) = after_below 0 0 ds (lit< tt) a in
+    let p : 10 ^ (0 + length ds) ≤ 10 ^ 36 = power_short (0 + length ds) (omega arith) in
+    omega arith
+
+num_short : (f : Form) → IsForm f → form_digits f ≤ 36 → form_num f ≤ 10 ^ 36
+num_short (whole ds) h l = value_short ds h.1 l
+num_short (decimal ds es) h l = value_short (ds ++ es) (all_append ds es h.0 h.1) (omega (arith, length-append ds es))
+num_short (fraction ds es) h l = value_short ds h.0.1 (omega arith)
+
+den_short : (f : Form) → IsForm f → form_digits f ≤ 36 → form_den f ≤ 10 ^ 36
+den_short (whole ds) h l = power_short 0 (omega arith)
+den_short (decimal ds es) h l = power_short (length es) (omega arith)
+den_short (fraction ds es) h l = value_short es h.1 (omega arith)
+
+-- lowest terms, and no part above 10^36
+abbrev pub Short : Ratio → Type 0
+Short r = IsLowest r × (unsigned_abs r.num ≤ 10 ^ 36) × (unsigned_abs r.den ≤ 10 ^ 36)
+
+lowest_short : (token : List ℕ) (s : Spelling) → Spells token s → digit_count token ≤ 36 → Short (lowest (spelled_num s) (form_den s.form))
+unfolding lowest
+lowest_short token s h l =
+    let d = few token s h l in
+    let num = spelled_num s in
+    let den = form_den s.form in
+    let e : unsigned_abs num ≡ form_num s.form = num_abs s.negative (form_num s.form) in
+    let n : unsigned_abs num < 2 ^ 127 = subst (λ n. n < 2 ^ 127) (sym e) (form_num_small s.form h.form d) in
+    let m : unsigned_abs num ≤ 10 ^ 36 = subst (λ n. n ≤ 10 ^ 36) (sym e) (num_short s.form h.form d) in
+    let k : form_den s.form ≤ 10 ^ 36 = den_short s.form h.form d in
+    let g = pos (euclid den (unsigned_abs num) den) in
+    let u = no_greater num g in
+    let v = no_greater (pos den) g in (
+      (lowest_is num den (form_den_positive s.form h.form) n (form_den_small s.form h.form d)).0,
+      omega arith,
+      omega arith,
+    )
+
+no_number : (e : NumberFault) (r : Ratio) → Err e ≡ Ok r → ⊥
+no_number e r h = cc
+
+abbrev right : Ratio → Result Ratio NumberFault
+right x = Ok x
+
+same_number_read : (x y : Ratio) → right x ≡ Ok y → x ≡ y
+same_number_read x y h = cc
+
+-- the number that a token spells is short
+pub number_short : (token : List ℕ) (r : Ratio) → number_of token ≡ Ok r → Short r
+unfolding number_of
+number_short token r h =
+    let by : (o : Option Spelling) → spelling_of token ≡ o → number_from token o ≡ Ok r → Short r =
+    λ o. elim o as (λ o. spelling_of token ≡ o → number_from token o ≡ Ok r → Short r) [
+      | None ↦ λ e g. absurd (no_number NotNumber r g)
+      | Some s ↦ λ e g.
+          let sp = spelling_is token s e in
+          let low = lowest (spelled_num s) (form_den s.form) in
+          let many = Beyond (digit_count token) in
+          let cases : (v : Bool) → nat_lt 36 (digit_count token) ≡ v → (if v then Err many else Ok low) ≡ Ok r → Short r =
+          λ v. elim v as (λ v. nat_lt 36 (digit_count token) ≡ v → (if v then Err many else Ok low) ≡ Ok r → Short r) [
+            | true ↦ λ t k. absurd (no_number many r k)
+            | false ↦ λ t k. subst Short (same_number_read low r k) (lowest_short token s sp (grind (arith, nat_tests)))
+          ] in
+          cases (nat_lt 36 (digit_count token)) refl g
+    ] in
+    by (spelling_of token) refl h

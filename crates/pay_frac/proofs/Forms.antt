@@ -96,7 +96,7 @@ value_small ds a l =
     let p = power_small (0 + length ds) (omega arith) in
     omega arith
 
-all_append : (ds es : List ℕ) → AllDigits 10 ds → AllDigits 10 es → AllDigits 10 (ds ++ es)
+pub all_append : (ds es : List ℕ) → AllDigits 10 ds → AllDigits 10 es → AllDigits 10 (ds ++ es)
 all_append [] es a b = b
 all_append (d ∷ ds) es a b = (a.0, all_append ds es a.1 b)
 
