@@ -1,6 +1,7 @@
 //! Worked rows, which show that the definitions say what is meant.
 
-ghost use Rattle.std.specs.Prelude.{◌≡◌, [], ◌∷◌, ◌++◌, codes, pos, Ok, Err};
+ghost use Rattle.std.specs.Prelude.{◌≡◌, ◌≤◌, [], ◌∷◌, ◌++◌, ℕ, List, codes, length, pos, Ok, Err};
+ghost use Rattle.dyn_text.specs.declared.transitions.Dyn.{Dyn};
 ghost use Rattle.dyn_text.specs.Grammar.{dyn_of};
 ghost use Rattle.nfg_text.specs.declared.fault.NfgFault.TheVariants.{Bad, Limit};
 ghost use Rattle.nfg_text.specs.declared.what.What.TheVariants.{Digits, Whole};
@@ -14,4 +15,9 @@ pub fn faults_of_files()
     ensures longer { dyn_of (codes "DYN 1 \"x\" { { \"a\" \"b\" { 0 } } } }") ≡ Err (Bad 32) }
     ensures large { dyn_of (codes "DYN 1 \"x\" { { \"a\" \"b\" { 4294967296 } } }") ≡ Err (Limit Whole (pos 4294967296) 24) }
     ensures sign { dyn_of (codes "DYN 1 \"x\" { { \"a\" \"b\" { 0 -1 } } }") ≡ Err (Bad 26) }
+{}
+
+/// A law: whatever a text has is 1 to 64 states.
+pub fn files_have_states()
+    ensures { (bytes : List ℕ) (d : Dyn) → dyn_of bytes ≡ Ok d → (1 ≤ length d.states) × (length d.states ≤ 64) }
 {}

@@ -3,13 +3,23 @@ use Rattle.std.specs.Prelude.{ℕ, List, ◌++◌, codes, decimal, Option, Some,
 use Rattle.std.specs.Fmt.{signed_decimal}
 use Rattle.nfg_text.specs.declared.what.What.{What}
 use Rattle.nfg_text.specs.declared.what.What.TheVariants as whats
-use Rattle.solve_run.specs.declared.outcome.FileId.{FileId}
-use Rattle.solve_run.specs.declared.outcome.FileId.TheVariants.{First}
+use Rattle.game_model.specs.declared.parts.ShapeWhat.{ShapeWhat}
+use Rattle.game_model.specs.declared.parts.ShapeWhat.TheVariants.{Players, Payoffs, Successors, Successor}
+use Rattle.game_files.specs.declared.fault.FileId.{FileId}
+use Rattle.game_files.specs.declared.fault.FileId.TheVariants.{First, State, Second}
 use Rattle.solve_run.specs.declared.outcome.Status.{Status}
-use Rattle.solve_run.specs.declared.outcome.Status.TheVariants.{Settled, Usage, Spent, BadInput, TooLong, ReadFault, Beyond, WriteFault, NoMemory}
+use Rattle.solve_run.specs.declared.outcome.Status.TheVariants.{Settled, Usage, Spent, BadInput, Shape, TooLong, ReadFault, Beyond, WriteFault, NoMemory}
 
 abbrev pub file_text : FileId → List ℕ
 file_text First = codes "first file"
+file_text (State s) = codes "file of state " ++ decimal s
+file_text Second = codes "second file"
+
+abbrev pub shape_text : ShapeWhat → List ℕ
+shape_text Players = codes "players"
+shape_text Payoffs = codes "payoffs"
+shape_text Successors = codes "successors"
+shape_text Successor = codes "successor"
 
 -- a quantity in small letters
 abbrev pub what_text : What → List ℕ
@@ -43,6 +53,8 @@ line_text Settled = None
 line_text (Spent sweeps row) = None
 line_text (Usage index) = told (codes "word " ++ decimal index ++ codes " is not understood")
 line_text (BadInput file at) = told (file_text file ++ codes " is not valid at byte " ++ decimal at)
+line_text (Shape fault) =
+    told (codes "state " ++ decimal fault.state ++ codes ": " ++ shape_text fault.what ++ codes " found " ++ decimal fault.found ++ codes " wanted " ++ decimal fault.wanted)
 line_text (TooLong file) = told (file_text file ++ codes " is too long")
 line_text (ReadFault file) = told (file_text file ++ codes " cannot be read")
 line_text (Beyond what number) = told (what_text what ++ codes " is beyond its limit: " ++ signed_decimal number)
@@ -54,6 +66,7 @@ exit_code Settled = 0
 exit_code (Usage index) = 2
 exit_code (Spent sweeps row) = 3
 exit_code (BadInput file at) = 4
+exit_code (Shape fault) = 4
 exit_code (TooLong file) = 5
 exit_code (Beyond what number) = 5
 exit_code (ReadFault file) = 6

@@ -1,5 +1,5 @@
 pub mod Endings
-pub mod PlainGame
+pub mod Problems
 pub mod Refusals
 pub mod Run
 pub mod Solved

@@ -1,39 +1,34 @@
 -- What the top call promises: which answer comes from which cause, what the report is, and what the sink has then taken.
 use Rattle.std.specs.Prelude.{◌≡◌, ◌⊎◌, ℕ, ◌<◌, ◌≤◌, List, length, Option, Some, None, ℤ}
 use Rattle.pay_outside.specs.Counts.{Rose}
-use Rattle.nfg_text.specs.declared.nfg.Nfg.{Nfg}
-use Rattle.nfg_text.specs.declared.what.What.{What}
-use Rattle.nfg_text.specs.PlainFile.{IsPlainFile}
+use Rattle.game_model.specs.Game.{DynamicGame}
+use Rattle.level_table.specs.Tables.{IsFirstBeyond}
 use Rattle.pay_words.specs.declared.options.Settings.{Settings}
+use Rattle.pay_words.specs.Command.{IsCommand, IsMisfit, Request, solving}
 use Rattle.set_operator.specs.declared.row.Verdict.{Verdict}
 use Rattle.set_operator.specs.declared.row.Verdict.TheVariants.{Supported, Unsupported}
 use Rattle.report_text.specs.declared.report.Report.{Report}
 use Rattle.report_text.specs.ReportText.{IsReportText}
 use Rattle.sweep_run.specs.Runs.{IsSupportedVerdict}
+use Rattle.game_files.specs.declared.fault.GameFault.{GameFault}
+use Rattle.game_files.specs.declared.fault.GameFault.TheVariants as faults
+use Rattle.game_files.specs.Loads.{Counts}
+use Rattle.game_files.specs.Causes.{AreRight, IsGameOf}
 use Rattle.solve_run.specs.declared.outcome.Status.{Status}
-use Rattle.solve_run.specs.declared.outcome.Status.TheVariants.{Settled, Usage, Spent, BadInput, TooLong, ReadFault, Beyond, WriteFault, NoMemory}
-use Rattle.solve_run.specs.declared.refusal.Refusal.{Refusal}
-use Rattle.solve_run.specs.declared.refusal.Refusal.TheVariants as refusals
-use Rattle.solve_run.specs.Refusals.{AsksFor, IsCause, IsFileOf, IsPast, Load, longest_file}
-use Rattle.solve_run.specs.Solved.{IsSolvedBy}
+use Rattle.solve_run.specs.declared.outcome.Status.TheVariants.{Settled, Usage, Spent, BadInput, Shape, TooLong, ReadFault, Beyond, WriteFault, NoMemory}
+use Rattle.solve_run.specs.Problems.{problem_in}
+use Rattle.solve_run.specs.Refusals.{IsSolveFault, MayAskFor}
+use Rattle.solve_run.specs.Solved.{IsAnswer}
 use Rattle.solve_run.specs.Writing.{Taking, TookAll, TookNothing, TookPart}
 
 -- the status of a refusal
-abbrev pub refused_as : Refusal → Status
-refused_as (refusals.Usage index) = Usage index
-refused_as (refusals.BadInput file at) = BadInput file at
-refused_as (refusals.TooLong file) = TooLong file
-refused_as (refusals.ReadFault file) = ReadFault file
-refused_as (refusals.Beyond what number) = Beyond what number
-refused_as refusals.NoMemory = NoMemory
-
--- The report is that of the game in the file, with the settings of the words.
-pub record IsAnswer (words : List (List ℕ)) (file : Option (List ℕ)) (report : Report) : Type 0 where
-  pub set : Settings
-  pub asks : AsksFor words set
-  pub game : Nfg
-  pub is_file : IsFileOf file game
-  pub solved : IsSolvedBy game set report
+abbrev pub refused_as : GameFault → Status
+refused_as (faults.BadInput file at) = BadInput file at
+refused_as (faults.TooLong file) = TooLong file
+refused_as (faults.ReadFault file) = ReadFault file
+refused_as (faults.Shape fault) = Shape fault
+refused_as (faults.Beyond what number) = Beyond what number
+refused_as faults.NoMemory = NoMemory
 
 -- the row of an unsupported verdict
 abbrev pub IsUnsupportedAt : ℕ → Verdict → Type 0
@@ -46,6 +41,7 @@ IsStatusOf verdict sweeps Settled = IsSupportedVerdict verdict
 IsStatusOf verdict sweeps (Spent n row) = IsUnsupportedAt row verdict × (n ≡ sweeps)
 IsStatusOf verdict sweeps (Usage index) = ⊥
 IsStatusOf verdict sweeps (BadInput file at) = ⊥
+IsStatusOf verdict sweeps (Shape fault) = ⊥
 IsStatusOf verdict sweeps (TooLong file) = ⊥
 IsStatusOf verdict sweeps (ReadFault file) = ⊥
 IsStatusOf verdict sweeps (Beyond what number) = ⊥
@@ -59,46 +55,62 @@ IsWritten report sink shown status =
     ⊎ ((n : ℕ) × (status ≡ WriteFault n) × (shown ≡ Some report) × TookPart (IsReportText report) sink n)
     ⊎ ((status ≡ NoMemory) × (shown ≡ None) × TookNothing sink)
 
--- nothing was made and nothing written, for this cause
-pub record IsRefused (words : List (List ℕ)) (load : Load) (sink : Taking) (shown : Option Report) (status : Status) : Type 0 where
-  pub refusal : Refusal
-  pub told : status ≡ refused_as refusal
-  pub cause : IsCause words load refusal
+-- nothing was made and nothing written, for such a fault
+pub record IsRefused (IsFault : GameFault → Type 0) (sink : Taking) (shown : Option Report) (status : Status) : Type 0 where
+  pub fault : GameFault
+  pub is_fault : IsFault fault
+  pub status_is : status ≡ refused_as fault
   pub nothing : TookNothing sink
   pub none : shown ≡ None
 
--- What each answer says: there is a cause and no report, or the report that the words and the file ask for.
-abbrev pub Causes : List (List ℕ) → Load → Taking → Option Report → Status → Type 0
-Causes words load sink shown status =
-    IsRefused words load sink shown status ⊎ ((report : Report) × IsAnswer words load.file report × IsWritten report sink shown status)
+-- a word doesn't fit: no file was asked for and nothing written
+pub record IsUsage (words : List (List ℕ)) (before after : Counts) (sink : Taking) (shown : Option Report) (status : Status) : Type 0 where
+  pub index : ℕ
+  pub misfit : IsMisfit words index
+  pub status_is : status ≡ Usage index
+  pub unasked : after ≡ before
+  pub nothing : TookNothing sink
+  pub none : shown ≡ None
 
--- The words ask for a run, the file is told, short, and a plain game's, and no limit is passed.
-pub record IsSolvable (words : List (List ℕ)) (file : Option (List ℕ)) : Type 0 where
-  pub set : Settings
-  pub asks : AsksFor words set
-  pub bytes : List ℕ
-  pub told : file ≡ Some bytes
-  pub short : length bytes ≤ longest_file
-  pub game : Nfg
-  pub is_plain : IsPlainFile bytes game
-  pub within : (n : Nfg) (what : What) (number : ℤ) → IsPlainFile bytes n → IsPast n set what number → ⊥
+-- the ends of a command: a refusal with its cause, or what it asks for
+abbrev pub IsEnd : (List ℕ → Option (List ℕ)) → Counts → Counts → Taking → Option Report → Status → Request → Type 0
+IsEnd told before after sink shown status (solving file set) =
+    IsRefused (IsSolveFault told file set before after) sink shown status
+    ⊎ ((report : Report) × IsAnswer told file set report × IsWritten report sink shown status)
 
--- a run came to its end, or memory ran out
+-- What each answer says: the words are no command, or they are this one and it came to this end.
+abbrev pub Causes : List (List ℕ) → (List ℕ → Option (List ℕ)) → Counts → Counts → Taking → Option Report → Status → Type 0
+Causes words told before after sink shown status =
+    IsUsage words before after sink shown status
+    ⊎ ((request : Request) × IsCommand words request × IsEnd told before after sink shown status request)
+
+-- the files of the command that the words are may be asked for
+abbrev pub MayAsk : List (List ℕ) → (List ℕ → Option (List ℕ)) → (List ℕ → Type 0) → Type 0
+MayAsk words told may = (request : Request) → IsCommand words request → MayAskFor told may request
+
+-- the files of a command are told, short and right, and no limit is passed
+abbrev pub IsRight : (List ℕ → Option (List ℕ)) → Request → Type 0
+IsRight told (solving file set) =
+    AreRight told file set.discount
+    × ((game : DynamicGame) (number : ℤ) → IsGameOf told file set.discount game → IsFirstBeyond (problem_in game set) number → ⊥)
+
+-- a command came to its end, or memory ran out
 abbrev pub IsThrough : Status → Type 0
 IsThrough Settled = Unit {0}
 IsThrough (Spent sweeps row) = Unit {0}
 IsThrough NoMemory = Unit {0}
 IsThrough (Usage index) = ⊥
 IsThrough (BadInput file at) = ⊥
+IsThrough (Shape fault) = ⊥
 IsThrough (TooLong file) = ⊥
 IsThrough (ReadFault file) = ⊥
 IsThrough (Beyond what number) = ⊥
 IsThrough (WriteFault written) = ⊥
 
--- Where the words and the file are right and no count of faults rises, nothing but memory stands in the way of a report.
-abbrev pub IsComplete : List (List ℕ) → Load → Taking → Status → Type 0
-IsComplete words load sink status =
-    IsSolvable words load.file
-    → (Rose load.faults_before load.faults_after → ⊥)
+-- Where the words and the files are right and no count of faults rises, nothing but memory stands in the way of an end.
+abbrev pub IsComplete : List (List ℕ) → (List ℕ → Option (List ℕ)) → Counts → Counts → Taking → Status → Type 0
+IsComplete words told before after sink status =
+    (request : Request) → IsCommand words request → IsRight told request
+    → (Rose before.faults after.faults → ⊥)
     → (Rose sink.faults_before sink.faults_after → ⊥)
     → IsThrough status

@@ -1,15 +1,12 @@
 -- What a report says of the problem that was solved.
-use Rattle.std.specs.Prelude.{◌≡◌, ℕ, ◌<◌, [], length, slice_index}
-use Rattle.game_model.specs.Game.{states, unit_of}
+use Rattle.std.specs.Prelude.{◌≡◌, ℕ, ◌<◌, [], List, Option, length, slice_index}
+use Rattle.game_model.specs.Game.{DynamicGame, states, unit_of}
 use Rattle.level_table.specs.Problem.{Problem, direction_count}
 use Rattle.level_table.specs.Levels.{opening_table}
-use Rattle.level_table.specs.Tables.{HasSmallOpening, IsFirstBeyond}
-use Rattle.nfg_text.specs.declared.nfg.Nfg.{Nfg}
-use Rattle.nfg_text.specs.declared.what.What.TheVariants.{Opening}
+use Rattle.level_table.specs.Tables.{HasSmallOpening}
 use Rattle.pay_words.specs.declared.options.Settings.{Settings}
-use Rattle.solve_run.specs.declared.refusal.Refusal.{Refusal}
-use Rattle.solve_run.specs.declared.refusal.Refusal.TheVariants.{Usage, BadInput, TooLong, ReadFault, Beyond, NoMemory}
-use Rattle.solve_run.specs.PlainGame.{IsDiscountOf, problem_in}
+use Rattle.game_files.specs.Causes.{IsGameOf}
+use Rattle.solve_run.specs.Problems.{problem_in}
 use Rattle.report_text.specs.ReportText.{discount_at}
 use Rattle.report_text.specs.declared.report.Report.{Report}
 use Rattle.sweep_run.specs.Runs.{IsRunFrom}
@@ -30,19 +27,9 @@ pub record IsReportOf (p : Problem) (slack budget : ℕ) (report : Report) : Typ
   pub slack_shown : report.slack ≡ slack
   pub run : IsRunFrom p (opening_table p) [] slack budget (run_of report)
 
--- the report is that of the file's game with these settings
-pub record IsSolvedBy (game : Nfg) (set : Settings) (report : Report) : Type 0 where
-  pub p : ℕ
-  pub q : ℕ
-  pub discount : IsDiscountOf set p q
-  pub small : HasSmallOpening (problem_in game set p q)
-  pub is_report : IsReportOf (problem_in game set p q) set.slack set.budget report
-
--- why there is no report on a problem
-abbrev pub IsBeyond : Problem → Refusal → Type 0
-IsBeyond p (Usage index) = ⊥
-IsBeyond p (ReadFault file) = ⊥
-IsBeyond p (TooLong file) = ⊥
-IsBeyond p (BadInput file at) = ⊥
-IsBeyond p (Beyond what number) = (what ≡ Opening) × IsFirstBeyond p number
-IsBeyond p NoMemory = Unit {0}
+-- The report is that of the game that the files make, with these settings.
+pub record IsAnswer (told : List ℕ → Option (List ℕ)) (file : List ℕ) (set : Settings) (report : Report) : Type 0 where
+  pub game : DynamicGame
+  pub is_game : IsGameOf told file set.discount game
+  pub small : HasSmallOpening (problem_in game set)
+  pub is_report : IsReportOf (problem_in game set) set.slack set.budget report

@@ -2,9 +2,12 @@
 
 ghost use Rattle.std.specs.Prelude.{◌≡◌, IfOk, string_bytes};
 ghost use Rattle.std.specs.Option.{option_map};
-ghost use Rattle.solve_run.specs.Endings.{exit_code, file_text, line_text, what_text};
+ghost use Rattle.solve_run.specs.Endings.{exit_code, file_text, line_text, shape_text, what_text};
+ghost use Rattle.solve_run.specs.declared.outcome.Status.TheVariants.{Shape};
 
-use crate::outcome::{FileId, Status};
+use crate::outcome::Status;
+use game_files::FileId;
+use game_model::{ShapeFault, ShapeWhat};
 use nfg_text::What;
 use std::alloc::{AllocError, Global};
 
@@ -18,15 +21,16 @@ pub fn line_of(alloc: Global, status: Status) -> Result<Option<String>, AllocErr
             "payoff: word {index} is not understood"
         )?)),
         Status::BadInput { file, at } => {
-            let file = name_of(file);
+            let file = name_of(alloc, file)?;
             Ok(Some(format!(in alloc; "payoff: {file} is not valid at byte {at}")?))
         }
+        Status::Shape { fault } => shape_line(alloc, fault),
         Status::TooLong { file } => {
-            let file = name_of(file);
+            let file = name_of(alloc, file)?;
             Ok(Some(format!(in alloc; "payoff: {file} is too long")?))
         }
         Status::ReadFault { file } => {
-            let file = name_of(file);
+            let file = name_of(alloc, file)?;
             Ok(Some(format!(in alloc; "payoff: {file} cannot be read")?))
         }
         Status::Beyond { what, number } => {
@@ -40,12 +44,37 @@ pub fn line_of(alloc: Global, status: Status) -> Result<Option<String>, AllocErr
     }
 }
 
+/// The line of a state whose successors don't fit.
+fn shape_line(alloc: Global, fault: ShapeFault) -> Result<Option<String>, AllocError>
+    ensures { IfOk result (λ line. option_map string_bytes line ≡ line_text (Shape fault)) }
+{
+    let what = shape_words(fault.what);
+    let (state, found, wanted) = (fault.state, fault.found, fault.wanted);
+    Ok(Some(format!(in alloc;
+        "payoff: state {state}: {what} found {found} wanted {wanted}"
+    )?))
+}
+
 /// The name of a file in a line.
-fn name_of(file: FileId) -> &'static str
-    ensures { result.now ≡ file_text file }
+fn name_of(alloc: Global, file: FileId) -> Result<String, AllocError>
+    ensures { IfOk result (λ s. string_bytes s ≡ file_text file) }
 {
     match file {
-        FileId::First => "first file",
+        FileId::First => String::from_str(alloc, "first file"),
+        FileId::State(state) => format!(in alloc; "file of state {state}"),
+        FileId::Second => String::from_str(alloc, "second file"),
+    }
+}
+
+/// The name of a length or a number of a state in a line.
+fn shape_words(what: ShapeWhat) -> &'static str
+    ensures { result.now ≡ shape_text what }
+{
+    match what {
+        ShapeWhat::Players => "players",
+        ShapeWhat::Payoffs => "payoffs",
+        ShapeWhat::Successors => "successors",
+        ShapeWhat::Successor => "successor",
     }
 }
 
@@ -86,6 +115,7 @@ pub fn exit_of(status: Status) -> u8
         Status::Usage { .. } => 2,
         Status::Spent { .. } => 3,
         Status::BadInput { .. } => 4,
+        Status::Shape { .. } => 4,
         Status::TooLong { .. } => 5,
         Status::Beyond { .. } => 5,
         Status::ReadFault { .. } => 6,
@@ -114,6 +144,33 @@ mod tests {
                 Status::BadInput { file, at: 29 },
                 Some("payoff: first file is not valid at byte 29"),
                 4,
+            ),
+            (
+                Status::BadInput {
+                    file: FileId::State(12),
+                    at: 0,
+                },
+                Some("payoff: file of state 12 is not valid at byte 0"),
+                4,
+            ),
+            (
+                Status::Shape {
+                    fault: ShapeFault {
+                        what: ShapeWhat::Successors,
+                        state: 0,
+                        found: 3,
+                        wanted: 4,
+                    },
+                },
+                Some("payoff: state 0: successors found 3 wanted 4"),
+                4,
+            ),
+            (
+                Status::ReadFault {
+                    file: FileId::Second,
+                },
+                Some("payoff: second file cannot be read"),
+                6,
             ),
             (
                 Status::TooLong { file },

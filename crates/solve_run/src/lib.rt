@@ -2,15 +2,14 @@
 #![tactic(auto)]
 
 mod ending;
-mod game;
 mod outcome;
-mod refusal;
 mod run;
 mod solve;
 mod write;
 
 pub use ending::{exit_of, line_of};
-pub use outcome::{FileId, Outcome, Status};
+pub use game_files::FileId;
+pub use outcome::{Outcome, Status};
 pub use run::payoff_run;
 
 #[cfg(test)]

@@ -1,12 +1,7 @@
+use game_files::FileId;
+use game_model::ShapeFault;
 use nfg_text::What;
 use report_text::Report;
-
-/// Which file.
-#[derive(Clone, Copy, Debug, PartialEq, Eq)]
-pub enum FileId {
-    /// The game.
-    First,
-}
 
 /// How a call ended.
 #[derive(Clone, Copy, Debug, PartialEq, Eq)]
@@ -21,6 +16,8 @@ pub enum Status {
     Spent { sweeps: u64, row: u32 },
     /// The file isn't valid at this byte.
     BadInput { file: FileId, at: u64 },
+    /// The first state whose successors don't fit its stage game.
+    Shape { fault: ShapeFault },
     /// The file has more bytes than it may.
     TooLong { file: FileId },
     /// The file can't be read.

@@ -1,22 +1,19 @@
-//! From a file's game and the settings to the report.
+//! From a game and the settings to the report.
 
-ghost use Rattle.std.specs.Prelude.{◌≡◌, ℕ, ◌<◌, ◌≤◌, length, slice_index, pos, ◌<ℤ◌, All, IfErr, IfOk, OnOk, IfSome, IfNone};
+ghost use Rattle.std.specs.Prelude.{◌≡◌, ℕ, ◌<◌, ◌≤◌, length, slice_index, All, IfErr, IfOk, OnOk};
 ghost use Rattle.level_table.specs.Problem.{problem_of};
 ghost use Rattle.level_table.specs.Tables.{HasSmallOpening, IsOpening};
-ghost use Rattle.pay_frac.specs.Ratio.{IsLowest};
 ghost use Rattle.pay_words.specs.Options.{AreWithinLimits};
 ghost use Rattle.report_text.specs.ReportText.{IsPrintable, discount_at};
-ghost use Rattle.solve_run.specs.PlainGame.{IsParts, IsPlain, directions_of};
-ghost use Rattle.solve_run.specs.Refusals.{IsGameFault};
-ghost use Rattle.solve_run.specs.Solved.{IsBeyond, IsReportOf, IsSolvedBy};
+ghost use Rattle.solve_run.specs.Problems.{directions_of, problem_in};
+ghost use Rattle.solve_run.specs.Refusals.{IsOpeningFault};
+ghost use Rattle.solve_run.specs.Solved.{IsReportOf};
 
-use crate::game::game_of;
-use crate::refusal::Refusal;
 use direction_set::Directions;
+use game_files::GameFault;
 use game_model::{Game, List};
 use level_table::{LevelTable, OpeningFault, Problem, opening, unit};
-use nfg_text::{Nfg, What};
-use pay_frac::Frac;
+use nfg_text::What;
 use pay_outside::Gate;
 use pay_words::Settings;
 use report_text::Report;
@@ -24,62 +21,34 @@ use std::alloc::{AllocError, Global};
 use std::thread::Threads;
 use sweep_run::run_sweeps;
 
-/// The largest denominator of a discount factor.
-const MOST_DENOMINATOR: i128 = 1024;
-
 /// How many directions bound a game of two players where no word says it.
 const USUAL_DIRECTIONS: u32 = 16;
 
-/// Bounds the payoff set of the file's game.
-pub(crate) fn report_of<R: Threads + Sync, G: Gate + Sync>(
-    rt: &R,
-    alloc: Global,
-    file: &Nfg,
-    set: &Settings,
-    gate: &G,
-) -> Result<Report, Refusal>
-    requires file { IsPlain file.now }
-    requires limits { AreWithinLimits set.now }
-    ensures solved { IfOk result (IsSolvedBy file.now set.now) }
-    ensures printable { IfOk result IsPrintable }
-    ensures why { IfErr result (IsGameFault file.now set.now) }
-{
-    let (p, q) = match small_discount(&set.discount) {
-        Some(parts) => parts,
-        None => {
-            return Err(Refusal::Beyond {
-                what: What::Discount,
-                number: set.discount.den(),
-            });
-        }
-    };
-    match game_of(alloc, file, p, q) {
-        Err(_) => Err(Refusal::NoMemory),
-        Ok(game) => report_on(rt, alloc, &game, set, gate),
-    }
-}
-
 /// Bounds the payoff set of a game.
-fn report_on<R: Threads + Sync, G: Gate + Sync>(
+///
+/// # Errors
+///
+/// The first opening level that passes its limit, and `NoMemory`.
+pub(crate) fn report_on<R: Threads + Sync, G: Gate + Sync>(
     rt: &R,
     alloc: Global,
     game: &Game,
     set: &Settings,
     gate: &G,
-) -> Result<Report, Refusal>
+) -> Result<Report, GameFault>
     requires limits { AreWithinLimits set.now }
     requires players { game.now.players ≡ 2 }
-    ensures solved { IfOk result (IsReportOf (problem_of game.now (directions_of set.now) set.now.grid) set.now.slack set.now.budget) }
-    ensures small { OnOk result (HasSmallOpening (problem_of game.now (directions_of set.now) set.now.grid)) }
+    ensures solved { IfOk result (IsReportOf (problem_in game.now set.now) set.now.slack set.now.budget) }
+    ensures small { OnOk result (HasSmallOpening (problem_in game.now set.now)) }
     ensures printable { IfOk result IsPrintable }
-    ensures why { IfErr result (IsBeyond (problem_of game.now (directions_of set.now) set.now.grid)) }
+    ensures why { IfErr result (IsOpeningFault (problem_in game.now set.now)) }
 {
     let dirs = directions(set);
     let start = match opening(alloc, game, &dirs, set.grid) {
         Ok(levels) => levels,
-        Err(OpeningFault::NoMemory) => return Err(Refusal::NoMemory),
+        Err(OpeningFault::NoMemory) => return Err(GameFault::NoMemory),
         Err(OpeningFault::Beyond { number }) => {
-            return Err(Refusal::Beyond {
+            return Err(GameFault::Beyond {
                 what: What::Opening,
                 number,
             });
@@ -87,7 +56,7 @@ fn report_on<R: Threads + Sync, G: Gate + Sync>(
     };
     match reported(rt, alloc, game, &dirs, start, set, gate) {
         Ok(report) => Ok(report),
-        Err(_) => Err(Refusal::NoMemory),
+        Err(_) => Err(GameFault::NoMemory),
     }
 }
 
@@ -149,18 +118,4 @@ fn discounts_of(alloc: Global, game: &Game) -> Result<List<(u32, u32)>, AllocErr
         discounts.push(game.discount_of(i))?;
     }
     Ok(discounts)
-}
-
-/// The parts of a discount factor, and none where the denominator passes the limit.
-fn small_discount(discount: &Frac) -> Option<(u32, u32)>
-    requires lowest { IsLowest discount.now }
-    requires above_zero { pos 0 <ℤ discount.now.num }
-    requires below_one { discount.now.num <ℤ discount.now.den }
-    ensures some { IfSome result (λ parts. IsParts discount.now parts.0 parts.1) }
-    ensures none { IfNone result (pos 1024 <ℤ discount.now.den) }
-{
-    if discount.den() > MOST_DENOMINATOR {
-        return None;
-    }
-    Some((discount.num() as u32, discount.den() as u32))
 }

@@ -1,0 +1,5 @@
+pub mod Built
+pub mod Moved
+pub mod RightFiles
+pub mod Stages
+pub mod Texts
