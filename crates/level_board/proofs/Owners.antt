@@ -9,6 +9,7 @@ use Rattle.level_table.specs.declared.reason.Note.{Note}
 use Rattle.level_table.specs.Levels.{levels_in, lesser}
 use Rattle.level_table.specs.Tables.{word_at}
 use Rattle.bound_laws.proofs.Notes.{noted}
+use Rattle.bound_laws.proofs.Levels.{lesser_number}
 use Rattle.schedule_core.specs.Frame.{Frame, IsNoteOver, IsSeen, IsSound, NamedRow, rows_of}
 use Rattle.schedule_core.proofs.Events.{named_above, named_more}
 use Rattle.schedule_core.proofs.Levels.{IsLowering, empty_sound, lowered_sound, seen_is_kept}
@@ -54,11 +55,6 @@ owner_seeing v r l notes ok within sound marked = record {
 
 pub owner_looked : (v : View) (r n : ℕ) (w : View) (notes : List Note) → Looked v r n w → IsOwner v notes → r < rows_of (frame_of v) → IsOwner w notes
 owner_looked v r n w notes h ok within = subst (λ (x : View). IsOwner x notes) (sym h.seen) (owner_seeing v r h.found.level notes ok within h.found.sound (h.found.marked ok.owner))
-
--- the lesser of a level and a number is Empty only where the level is
-lesser_number : (l : Level) (x : ℤ) → lesser l (At x) ≡ Empty → l ≡ Empty
-lesser_number Empty x e = e
-lesser_number (At y) x e = absurd (cc)
 
 pub owner_lowered : (f : Frame) (v : View) (r k n : ℕ) (x : ℤ) (w : View) (notes : List Note) → Lowered v r k n w → frame_of v ≡ f → k ≡ word_at (At x) → IsLowering f r (At x) → IsOwner v notes → r < rows_of f → IsOwner w notes
 owner_lowered f v r k n x w notes h same is lowering ok within =

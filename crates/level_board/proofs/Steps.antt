@@ -1,20 +1,22 @@
 -- Each step keeps the rule of the words.
-use Rattle.std.proofs.Common.{◌≡◌, ◌≢◌, ℕ, ◌+◌, ◌%◌, ◌^◌, ◌<◌, min, List, [], ◌∷◌, ◌++◌, map, length, get_or, set, refl, sym, ap, ◌∙◌, subst, true, false, true≢false, ⊎_elim, arith}
+use Rattle.std.proofs.Common.{◌≡◌, ◌≢◌, ℕ, ◌+◌, ◌%◌, ◌^◌, ◌<◌, min, List, [], ◌∷◌, ◌++◌, map, length, get_or, set, refl, sym, ap, ◌∙◌, subst, true, false, ⊎_elim, arith}
 use Rattle.std.specs.Prelude.{ℤ}
 use Rattle.std.proofs.lemmas.List.{set-get_or, set_at}
+use Rattle.std.proofs.lemmas.Bool.{false≢true}
 use mathlib.Core.Option.{none, some}
 use lib.ListN.{get_elem?}
 use Rattle.atomic_table.specs.Table.{State, Me, step, keeps, Allows, Splits, Joins}
 use Rattle.atomic_table.proofs.Lists.{set_again}
 use Rattle.level_table.specs.declared.level.Level.{Level}
 use Rattle.level_table.specs.declared.level.Level.TheVariants.{Empty, At}
-use Rattle.level_table.specs.Levels.{AtMost, level_at, lesser}
+use Rattle.level_table.specs.Levels.{level_at, lesser}
 use Rattle.level_table.specs.Tables.{word_at}
 use Rattle.schedule_core.specs.Frame.{Frame, IsAbove, IsSound, rows_of}
 use Rattle.schedule_core.specs.Core.{AreValid}
 use Rattle.schedule_core.proofs.Levels.{IsLowering}
 use Rattle.schedule_core.proofs.Lists.{at_map, at_set, at_snoc, each_after, each_found, each_of_both}
-use Rattle.schedule_core.proofs.Words.{clear_keeps, join_keeps, lesser_number, load_keeps, lower_keeps, split_keeps, valid_readers, valid_with}
+use Rattle.schedule_core.proofs.Words.{clear_keeps, join_keeps, load_keeps, lower_keeps, split_keeps, valid_readers, valid_with}
+use Rattle.bound_laws.proofs.Levels.{at_most_empty, lesser_number}
 use Rattle.level_board.specs.declared.view.View.{View}
 use Rattle.level_board.specs.Board.{words_of}
 use Rattle.level_board.specs.Rule.{frame_of, reader_of, seeing, clearing, drawing, copied, joined, spent_view, AreMarked, Keeps, Moment, Found, Looks, Lowers, Clears, Draws, Learns}
@@ -152,9 +154,6 @@ draws f slots id me n k unspent is s kept all_home at fits =
       (refl, refl),
     )
 
-false≢true : false ≡ true → ⊥
-false≢true e = true≢false (sym e)
-
 pub splits : (f : Frame) (id : ℕ) (v : View) → v.spent ≡ false → Splits (Keeps f) id v v (copied v)
 splits f id v unspent s kept at =
     let views : set s.views id v ≡ s.views = set_again s.views id v at in
@@ -180,11 +179,6 @@ joins f id v other w unspent unspent' no_owner s kept at apart there =
       marked = marks_with f kept.levels kept.levels (set s.views id (joined v w)) other spent_view (λ e. absurd (false≢true e))
           (λ j u _ h. marks_with f kept.levels kept.levels s.views id (joined v w) (kept.marked id v at) (λ i t _ is. kept.marked i t is) j u h);
     }
-
-at_most_empty : (l m : Level) → AtMost l m → m ≡ Empty → l ≡ Empty
-at_most_empty Empty m h e = refl
-at_most_empty (At x) Empty h e = absurd h
-at_most_empty (At x) (At y) h e = absurd (cc)
 
 pub learns : (f : Frame) (slots id : ℕ) (me : Me (Unit {0}) View) (r : ℕ) → me.0.spent ≡ false → frame_of me.0 ≡ f → Allows (Keeps f) slots id me r (λ n. n) (Learns (step slots r 0 0 none) me)
 learns f slots id me r unspent same s kept all_home at fits =

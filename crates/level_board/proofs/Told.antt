@@ -6,9 +6,9 @@ use Rattle.level_table.specs.declared.level.Level.{Level}
 use Rattle.level_table.specs.declared.level.Level.TheVariants.{Empty, At}
 use Rattle.level_table.specs.Levels.{Table, AtMost, IsSmall, level_at, lesser}
 use Rattle.level_table.specs.Tables.{word_at}
-use Rattle.bound_laws.proofs.Levels.{level_at_most_trans, lesser_at_most}
+use Rattle.bound_laws.proofs.Levels.{level_at_most_trans, lesser_at_most, lesser_at_most_second}
 use Rattle.schedule_core.specs.Frame.{Frame, BoundsRow, IsAbove, IsFallen, IsFrame, rows_of, with_level}
-use Rattle.schedule_core.proofs.Levels.{bounds_row, lesser_at_most_second}
+use Rattle.schedule_core.proofs.Levels.{bounds_row}
 use Rattle.level_board.specs.declared.view.View.{View}
 use Rattle.level_board.specs.Rule.{Cleared, Found, Looked, Lowered, frame_of}
 use Rattle.level_board.proofs.Moments.{fallen_with}

@@ -25,9 +25,7 @@ impl Lottery {
     pub fn new() -> Lottery
         ensures { result ≡ [] }
     {
-        Lottery {
-            items: Few::new(),
-        }
+        Lottery { items: Few::new() }
     }
 
     /// A law: there are at most four outcomes, with weights of at most 2^83.

@@ -1,15 +1,9 @@
 -- from what the parts answer to what the top call says
-use Rattle.std.proofs.Common.{◌≡◌, ◌∙◌, inl, inr, ℕ, ◌+◌, ◌*◌, ◌^◌, ◌<◌, ◌≤◌, List, [], ◌∷◌, length, Option, Result, Ok, Err, IfOk, IfErr, OnOk, refl, sym, ap, subst, arith}
-use Rattle.std.specs.Int.RustNames.{unsigned_abs}
-use Rattle.std.specs.Prelude.{codes, IsOkAnd}
-use Rattle.game_model.specs.Game.{DynamicGame, states}
-use Rattle.level_table.specs.declared.level.Level.TheVariants.{At}
-use Rattle.level_table.specs.Levels.{IsSmall, Table, level_at, levels_in}
-use Rattle.level_table.specs.Problem.{Problem, IsProblem, problem_of, opening_level}
-use Rattle.level_table.specs.Tables.{HasSmallOpening, IsFirstBeyond, IsOpening}
-use Rattle.level_table.proofs.Sizes.{abs_between}
+use Rattle.std.proofs.Common.{◌≡◌, inl, inr, ℕ, ◌<◌, List, length, Option, Result, Ok, Err, IfOk, IfErr, OnOk, sym, ap, subst, arith}
+use Rattle.game_model.specs.Game.{DynamicGame}
+use Rattle.level_table.specs.Problem.{problem_of}
+use Rattle.level_table.specs.Tables.{HasSmallOpening, IsFirstBeyond}
 use Rattle.nfg_text.specs.declared.nfg.Nfg.{Nfg}
-use Rattle.nfg_text.specs.declared.what.What.{What}
 use Rattle.nfg_text.specs.declared.what.What.TheVariants as whats
 use Rattle.pay_words.specs.declared.options.Settings.{Settings}
 use Rattle.pay_words.specs.declared.command.Command.{Command}
@@ -19,7 +13,7 @@ use Rattle.pay_words.specs.Options.{AreWithinLimits}
 use Rattle.report_text.specs.declared.report.Report.{Report}
 use Rattle.solve_run.specs.declared.refusal.Refusal.{Refusal}
 use Rattle.solve_run.specs.declared.refusal.Refusal.TheVariants as refusals
-use Rattle.solve_run.specs.PlainGame.{IsDiscountOf, directions_of, plain_game, problem_in}
+use Rattle.solve_run.specs.PlainGame.{IsDiscountOf, directions_of, plain_game}
 use Rattle.solve_run.specs.Refusals.{AsksFor, IsCause, IsFileFault, IsFileOf, IsGameFault, IsPast, Load, file_name, set_in}
 use Rattle.solve_run.specs.Run.{IsAnswer}
 use Rattle.solve_run.specs.Solved.{IsBeyond, IsReportOf, IsSolvedBy}
@@ -38,13 +32,6 @@ pub limits_of : (c : Command) → HasLimits c → AreWithinLimits (set_in c)
 limits_of (Solve file set) h = h
 
 -- ---- openings
-pub small_opening : (p : Problem) (t : Table) → IsProblem p → IsOpening p t → HasSmallOpening p
-small_opening p t ok opening k known =
-    let x = opening_level p k in
-    let here : level_at t (0 * t.directions + k) ≡ At x = opening.levels 0 k (record { state = omega (arith, ok.game.some_state); direction = known }) in
-    let low : IsSmall (At x) = subst IsSmall here (opening.small (0 * t.directions + k)) in
-    abs_between x (2 ^ 50) low.0 low.1
-
 -- ---- what a file's game gives
 pub solved_if : (game : DynamicGame) (file : Nfg) (set : Settings) (p q : ℕ) (r : Result Report Refusal) → game ≡ plain_game file p q → IsDiscountOf set p q
     → IfOk r (IsReportOf (problem_of game (directions_of set) set.grid) set.slack set.budget) → OnOk r (HasSmallOpening (problem_of game (directions_of set) set.grid)) → IfOk r (IsSolvedBy file set)

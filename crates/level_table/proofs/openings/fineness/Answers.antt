@@ -4,7 +4,8 @@ use Rattle.std.specs.Int.{w128}
 use Rattle.std.specs.Int.RustNames.{unsigned_abs}
 use Rattle.std.proofs.lemmas.Nat.{one_shl}
 use Rattle.std.proofs.Math.Pow.{pow_mono}
-use Rattle.level_table.proofs.Sizes.{base_small, fineness_small, product_fits, product_is}
+use Rattle.exact_algebra.proofs.Fits.{product_fits, product_is}
+use Rattle.level_table.proofs.Sizes.{base_small, fineness_small}
 use Rattle.level_table.proofs.openings.fineness.Goals as goal
 
 pub overflow_mul-result : goal.overflow_mul-result

@@ -5,8 +5,9 @@ use Rattle.std.proofs.lemmas.Int.{to_z-of_z}
 use Rattle.std.proofs.lemmas.List.{get_or_default}
 use Rattle.direction_set.specs.DirectionTable.{zero_vector}
 use Rattle.game_model.specs.SelfGeneration.{part, sum_below}
+use Rattle.exact_algebra.proofs.Order.{abs_product}
+use Rattle.exact_algebra.proofs.Fits.{product_is}
 use Rattle.level_table.specs.Problem.{largest_payoff, opening_level, problem_of}
-use Rattle.level_table.proofs.Sizes.{abs_product, product_is}
 use Rattle.level_table.proofs.openings.level_in.Goals as goal
 
 pub returns-clause-level : goal.returns-clause-level
