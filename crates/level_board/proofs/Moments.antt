@@ -10,7 +10,7 @@ use Rattle.level_table.specs.declared.level.Level.{Level}
 use Rattle.level_table.specs.declared.level.Level.TheVariants.{Empty, At}
 use Rattle.level_table.specs.declared.reason.Note.{Note}
 use Rattle.level_table.specs.Levels.{Table, AtMost, IsSmall, level_at, lesser}
-use Rattle.level_table.specs.Tables.{word_at}
+use Rattle.level_table.specs.Tables.{kept_word}
 use Rattle.bound_laws.proofs.Levels.{level_at_most_self, level_at_most_trans, lesser_at_most, lesser_at_most_second}
 use Rattle.schedule_core.specs.declared.event.Event.{Event}
 use Rattle.schedule_core.specs.declared.event.Event.TheVariants as events
@@ -128,7 +128,7 @@ looked_event v r n w f t u l told unspent same seen new is within =
     (load_event (frame_of v) (reader_of v) r told.found.level told.found.moment unspent (subst (λ (g : Frame). r < rows_of g) (sym same) within))
 
 pub lowered_event : (v : View) (r k n : ℕ) (w : View) (f : Frame) (t u : Table) (l : Level) (x : ℤ) (told : Lowered v r k n w) → v.spent ≡ false → frame_of v ≡ f → v.seen ≡ t → w.seen ≡ u → l ≡ told.found.level → r < rows_of f
-    → IsSmall (At x) → k ≡ word_at (At x) → IsRowLevelOf f t r (At x) → IsEvent f (λ y. events.Lower y r x) r t l u
+    → IsSmall (At x) → k ≡ kept_word (At x) → IsRowLevelOf f t r (At x) → IsEvent f (λ y. events.Lower y r x) r t l u
 lowered_event v r k n w f t u l x told unspent same seen new is within small word level =
     event_along (frame_of v) f (λ y. events.Lower y r x) r v.seen t told.found.level l (with_level v.seen r (lesser told.found.level (At x))) u same seen (sym is) (sym (ap (λ (y : View). y.seen) (told.seen (At x) small word)) ∙ new)
     (lower_event (frame_of v) (reader_of v) r told.found.level x told.found.moment unspent (subst (λ (g : Frame). r < rows_of g) (sym same) within)

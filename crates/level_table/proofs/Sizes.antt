@@ -61,8 +61,8 @@ base_small g game =
     first_at_most b (suc k) n e h = omega arith
 
 -- the base times 2^grid
-pub fineness_small : (g : DynamicGame) (grid : ℕ) → IsGame g → grid ≤ 30 → g.base * 2 ^ grid ≤ 2 ^ 60
-fineness_small g grid game h = mul-le-mul (base_small g game) (powers grid h)
+pub base_times_fineness_small : (g : DynamicGame) (grid : ℕ) → IsGame g → grid ≤ 30 → g.base * 2 ^ grid ≤ 2 ^ 60
+base_times_fineness_small g grid game h = mul-le-mul (base_small g game) (powers grid h)
   where
     powers : (n : ℕ) → n ≤ 30 → 2 ^ n ≤ 2 ^ 30
     powers n small = pow_mono small

@@ -8,7 +8,7 @@ use Rattle.std.proofs.lemmas.List.Elements.{All-append}
 use Rattle.game_model.specs.Game.{DynamicGame, IsGame, states, unit_of}
 use Rattle.level_table.specs.Problem.{Problem, IsProblem, direction_count}
 use Rattle.level_table.specs.Levels.{Table, IsTableOf, opening_table}
-use Rattle.level_table.proofs.Sizes.{fineness_small}
+use Rattle.level_table.proofs.Sizes.{base_times_fineness_small}
 use Rattle.set_operator.specs.declared.row.Support.{Support}
 use Rattle.set_operator.specs.declared.row.Verdict.{Verdict}
 use Rattle.set_operator.specs.declared.row.Verdict.TheVariants.{Supported, Unsupported}
@@ -23,7 +23,7 @@ pub unit_fits : (g : DynamicGame) (grid : ℕ) → IsGame g → grid ≤ 30 → 
 unit_fits g grid game few =
     fits_signed_mul w128 g.denominator (pos (g.base * 2 ^ grid)) (2 ^ 40) (2 ^ 60)
     (abs_within g.denominator (2 ^ 40) (omega (arith, ints, game.denominator_positive)) game.denominator_small)
-    (fineness_small g grid game few) (omega arith)
+    (base_times_fineness_small g grid game few) (omega arith)
 
 all_of_none : (P : Support → Type 0) → All P []
 all_of_none P k d below = absurd (omega (arith, below))
