@@ -8,6 +8,7 @@ use Rattle.game_model.specs.Game.{Divides, DynamicGame, IsDeviation, IsGame, IsL
 use Rattle.game_model.specs.declared.parts.GameParts.{GameParts}
 use Rattle.game_model.specs.Parts.{KeepLimits, game_of, shape_of}
 use Rattle.game_model.specs.SelfGeneration.{dot}
+use Rattle.game_model.proofs.Cases.{two_at, below_two, in_range, divides_one, below_one}
 use Rattle.level_table.specs.declared.level.Level.{Level}
 use Rattle.level_table.specs.declared.level.Level.TheVariants.{At}
 use Rattle.level_table.specs.Problem.{Problem, direction}
@@ -15,6 +16,7 @@ use Rattle.level_table.specs.Levels.{IsNumber, Levels, Table, level_at, levels_i
 use Rattle.level_table.specs.Operator.{Admissible, Fractions, IsRowLevel, value, value_unit}
 use Rattle.level_table.specs.Tables.{IsOpening}
 use Rattle.level_table.specs.Worked.{axes, whole}
+use Rattle.level_table.proofs.Numbers.{number_at}
 use Rattle.schedule_core.specs.Frame.{Frame, IsRowLevelOf, with_level}
 use Rattle.board_race.specs.Fall.{IsFresh, falling, falling_problem}
 
@@ -28,9 +30,6 @@ none_deviates zero (suc b) d = absurd (omega (arith, d.strategy))
 none_deviates (suc zero) zero d = d.other refl
 none_deviates (suc zero) (suc b) d = absurd (omega (arith, d.strategy))
 none_deviates (suc (suc i)) b d = absurd (omega (arith, d.player))
-
-number_at : (x y : ℤ) → At x ≡ At y → x ≡ y
-number_at x y e = cc
 
 -- the levels of the second state
 record HasLevels (t : Levels) : Type 0 where
@@ -65,13 +64,9 @@ reached_half t h = record {
 at_most_half : (t : Levels) (y : Fractions) → HasLevels t → Admissible falling_problem t 1 0 y → value falling_problem 1 0 0 y ≤ℤ (pos 16 *ℤ value_unit falling_problem y)
 at_most_half t y h adm = let plane = adm.half_planes 0 (pos 32) (lit< tt) h.a in omega (arith, ints, plane)
 
-one_profile : (P : ℕ → Type 0) → P 0 → (a : ℕ) → a < 1 → P a
-one_profile P h zero below = h
-one_profile P h (suc a) below = absurd (omega arith)
-
 row_level : (t : Levels) → HasLevels t → IsRowLevel falling_problem t 1 0 (At (pos 16))
 row_level t h = (
-  λ a y profile. one_profile (λ a. Admissible falling_problem t 1 a y → value falling_problem 1 a 0 y ≤ℤ (pos 16 *ℤ value_unit falling_problem y)) (at_most_half t y h) a profile,
+  λ a y profile. below_one (λ a. Admissible falling_problem t 1 a y → value falling_problem 1 a 0 y ≤ℤ (pos 16 *ℤ value_unit falling_problem y)) (at_most_half t y h) a profile,
   record { profile = 0; vector = whole (pos 32) (pos 0); known = lit< tt; admissible = reached_half t h; above = omega (arith, ints) },
 )
 
@@ -112,27 +107,10 @@ fresh_opening p t is ok =
       second_least = here 3 (lit< tt);
     }
 
-two_at : (x : ℕ) (P : ℕ → Type 0) → P x → (i : ℕ) → i < 2 → P (get_or (x ∷ x ∷ []) i 0)
-two_at x P a zero h = a
-two_at x P a (suc zero) h = a
-two_at x P a (suc (suc i)) h = absurd (omega arith)
-
-two_states : (P : ℕ → Type 0) → P 0 → P 1 → (s : ℕ) → s < 2 → P s
-two_states P a b zero h = a
-two_states P a b (suc zero) h = b
-two_states P a b (suc (suc s)) h = absurd (omega arith)
-
-in_range : (x : ℕ) → x ≤ 3 → (neg_ℤ (pos (2 ^ 26)) ≤ℤ pos x) × (pos x ≤ℤ pos (2 ^ 26))
-in_range x h = (omega (arith, ints), omega (arith, ints))
-
 pair_within : (x : ℕ) → x ≤ 3 → (k : ℕ) → k < 2 → (neg_ℤ (pos (2 ^ 26)) ≤ℤ get_or (pos x ∷ pos x ∷ []) k (pos 0)) × (get_or (pos x ∷ pos x ∷ []) k (pos 0) ≤ℤ pos (2 ^ 26))
 pair_within x small zero h = in_range x small
 pair_within x small (suc zero) h = in_range x small
 pair_within x small (suc (suc k)) h = absurd (omega arith)
-
-divides_one : (d k : ℕ) → 1 ≡ d * k → d ≤ 1
-divides_one d zero e = absurd (omega arith)
-divides_one d (suc k) e = omega arith
 
 pub keeps_limits : KeepLimits falling
 keeps_limits = record {
@@ -142,9 +120,9 @@ keeps_limits = record {
   few_states = lit≤ tt;
   payoffs_listed = refl;
   next_listed = refl;
-  some_strategy = λ s i hs hi. two_states (λ s. (i : ℕ) → i < length (counts falling s) → 1 ≤ slice_index (counts falling s) i) (two_at 1 (λ m. 1 ≤ m) (lit≤ tt)) (two_at 1 (λ m. 1 ≤ m) (lit≤ tt)) s hs i hi;
-  few_strategies = λ s i hs hi. two_states (λ s. (i : ℕ) → i < length (counts falling s) → slice_index (counts falling s) i ≤ 16) (two_at 1 (λ m. m ≤ 16) (lit≤ tt)) (two_at 1 (λ m. m ≤ 16) (lit≤ tt)) s hs i hi;
-  payoffs_small = λ s k hs hk. two_states (λ s. (k : ℕ) → k < length (get_or falling.payoffs s []) → (neg_ℤ (pos (2 ^ 26)) ≤ℤ get_or (get_or falling.payoffs s []) k (pos 0)) × (get_or (get_or falling.payoffs s []) k (pos 0) ≤ℤ pos (2 ^ 26)))
+  some_strategy = λ s i hs hi. below_two (λ s. (i : ℕ) → i < length (counts falling s) → 1 ≤ slice_index (counts falling s) i) (two_at 1 (λ m. 1 ≤ m) (lit≤ tt)) (two_at 1 (λ m. 1 ≤ m) (lit≤ tt)) s hs i hi;
+  few_strategies = λ s i hs hi. below_two (λ s. (i : ℕ) → i < length (counts falling s) → slice_index (counts falling s) i ≤ 16) (two_at 1 (λ m. m ≤ 16) (lit≤ tt)) (two_at 1 (λ m. m ≤ 16) (lit≤ tt)) s hs i hi;
+  payoffs_small = λ s k hs hk. below_two (λ s. (k : ℕ) → k < length (get_or falling.payoffs s []) → (neg_ℤ (pos (2 ^ 26)) ≤ℤ get_or (get_or falling.payoffs s []) k (pos 0)) × (get_or (get_or falling.payoffs s []) k (pos 0) ≤ℤ pos (2 ^ 26)))
       (pair_within 2 (lit≤ tt)) (pair_within 0 (lit≤ tt)) s hs k hk;
   denominator_positive = omega (arith, ints);
   denominator_small = omega (arith, ints);

@@ -8,6 +8,7 @@ use Rattle.std.proofs.Math.Nat.{mul-div_cancel_left}
 use Rattle.exact_algebra.specs.Poly.{var, ◌⊗◌}
 use Rattle.exact_algebra.proofs.Normal.{ring}
 use Rattle.exact_algebra.proofs.Order.{at_most_trans, product_above_zero, product_at_least_zero}
+use Rattle.exact_algebra.proofs.Quotients.{ceiling_exists}
 use Rattle.game_model.specs.Game.{DynamicGame, IsGame, states, counts, profile_count, successor, reached, IsDeviation, payoff_at, deviation_at}
 use Rattle.game_model.specs.SelfGeneration.{Entry, Correspondence, IsGenerated, IsSelfGenerating, entries_of, entry_at, part, sum_below, dot, total_weight, weighted_part, profile_of, punishment}
 use Rattle.game_model.proofs.Profiles.{profile_number_below}
@@ -19,7 +20,6 @@ use Rattle.level_table.specs.Operator.{Fractions, Admissible, HasValueAbove, val
 use Rattle.level_table.specs.Supported.{IsEven, IsSupported}
 use Rattle.bound_laws.specs.Laws.{HasBounds}
 use Rattle.bound_laws.specs.TableOf.{reach, common_denominator, HasEntryAbove, IsLevelOf, IsTableFrom}
-use Rattle.bound_laws.proofs.Ceilings.{ceiling_of}
 use Rattle.bound_laws.proofs.Cleared.{incentive_follows, value_cleared, above_cleared}
 use Rattle.bound_laws.proofs.Directions.{dot-minus_axis}
 use Rattle.bound_laws.proofs.Operator.{value_part}
@@ -37,11 +37,11 @@ level_of_sized : (p : Problem) (c : Correspondence) (s k : ℕ) → IsProblem p 
 level_of_sized p c s k ok scaled zero e = (Empty, e)
 level_of_sized p c s k ok scaled (suc m) e =
     let top = greatest_below (reach p c s k) m in
-    let up = ceiling_of (reach p c s k top.0) (common_denominator p c) (common_denominator_positive p c ok scaled) in (
+    let up = ceiling_exists (reach p c s k top.0) (common_denominator p c) (common_denominator_positive p c ok scaled) in (
       At up.0,
       (
-        (λ j within. at_most_trans (reach p c s k j) (reach p c s k top.0) _ (top.1.greatest j (omega arith)) up.1.enough),
-        record { entry = top.0; known = (let h : top.0 < suc m = top.1.within in omega arith); above = up.1.least },
+        (λ j within. at_most_trans (reach p c s k j) (reach p c s k top.0) _ (top.1.greatest j (omega arith)) up.1.reaches),
+        record { entry = top.0; known = (let h : top.0 < suc m = top.1.within in omega arith); above = up.1.no_less },
       ),
     )
 

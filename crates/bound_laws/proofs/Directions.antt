@@ -9,7 +9,7 @@ use Rattle.bound_laws.proofs.Order.{nought_times, one_times, minus_times}
 use Rattle.bound_laws.proofs.Places.{plus_axis_known, minus_axis_known}
 use Rattle.bound_laws.proofs.Sums.{sum_below-one}
 
-direction_is : (p : Problem) (k : ℕ) → k < direction_count p → direction p k ≡ vector_at p.directions k
+pub direction_is : (p : Problem) (k : ℕ) → k < direction_count p → direction p k ≡ vector_at p.directions k
 direction_is p k within = get_or_default p.directions k [] zero_vector within
 
 part-negative : (v : List ℤ) (j : ℕ) → part (negative v) j ≡ neg_ℤ (part v j)

@@ -3,7 +3,7 @@ use Rattle.std.proofs.Common.{◌≡◌, ◌≢◌, ◌⊎◌, inl, inr, ℕ, ze
 use Rattle.std.specs.Prelude.{ℤ, pos, ◌+ℤ◌, ◌-ℤ◌, ◌*ℤ◌, ◌≤ℤ◌, ◌<ℤ◌, neg_ℤ}
 use Rattle.std.proofs.lemmas.Int.{ints, by_lt_z}
 use Rattle.std.proofs.lemmas.Bool.{cases_eq}
-use Rattle.exact_algebra.proofs.Order.{at_most_self, at_most_below_trans, times_at_most}
+use Rattle.exact_algebra.proofs.Order.{at_most_self, at_most_below_trans, times_at_most, times_swap}
 use Rattle.direction_set.specs.DirectionTable.{opposite_of}
 use Rattle.game_model.specs.Game.{states}
 use Rattle.game_model.specs.SelfGeneration.{sum_below}
@@ -20,7 +20,7 @@ use Rattle.bound_laws.specs.Falls.{PassesRowLevels, IsBelowIterate, HasFloor, mo
 use Rattle.bound_laws.proofs.Directions.{opposite_known}
 use Rattle.bound_laws.proofs.Levels.{number_above, level_at_most_trans, at_most_lesser}
 use Rattle.bound_laws.proofs.Operator.{value_unit_positive}
-use Rattle.bound_laws.proofs.Order.{at_most_along, swap}
+use Rattle.bound_laws.proofs.Order.{at_most_along}
 use Rattle.bound_laws.proofs.Sums.{sum_below-at_most, sum_below-plus, sum_below-zero}
 
 -- ---- iterates
@@ -149,7 +149,7 @@ value_above_less p t s k x z ok h above = record {
   known = above.known;
   admissible = above.admissible;
   above = at_most_below_trans (x *ℤ value_unit p above.vector) (z *ℤ value_unit p above.vector) (value p s above.profile k above.vector)
-      (at_most_along (swap (value_unit p above.vector) x) (swap (value_unit p above.vector) z)
+      (at_most_along (times_swap (value_unit p above.vector) x) (times_swap (value_unit p above.vector) z)
       (times_at_most (value_unit p above.vector) x z (let positive : pos 0 <ℤ value_unit p above.vector = value_unit_positive p above.vector ok above.admissible.positive in omega (arith, ints)) h))
       above.above;
 }

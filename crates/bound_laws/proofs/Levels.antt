@@ -36,7 +36,7 @@ lesser_at_most Empty m = tt
 lesser_at_most (At x) Empty = tt
 lesser_at_most (At x) (At y) = omega (arith, ints, clamps)
 
-lesser_at_most_second : (l m : Level) → AtMost (lesser l m) m
+pub lesser_at_most_second : (l m : Level) → AtMost (lesser l m) m
 lesser_at_most_second Empty m = tt
 lesser_at_most_second (At x) Empty = tt
 lesser_at_most_second (At x) (At y) = omega (arith, ints, clamps)
@@ -52,3 +52,16 @@ lesser_grows l m l' m' h k =
     at_most_lesser (lesser l m) l' m'
     (level_at_most_trans (lesser l m) l l' (lesser_at_most l m) h)
     (level_at_most_trans (lesser l m) m m' (lesser_at_most_second l m) k)
+
+-- a level that is at most Empty, and the lesser of a level and a number, where it is Empty
+pub at_most_empty : (l m : Level) → AtMost l m → m ≡ Empty → l ≡ Empty
+at_most_empty Empty m h e = refl
+at_most_empty (At x) Empty h e = absurd h
+at_most_empty (At x) (At y) h e = absurd (cc)
+
+pub lesser_number : (l : Level) (x : ℤ) → lesser l (At x) ≡ Empty → l ≡ Empty
+lesser_number Empty x e = e
+lesser_number (At y) x e = absurd (cc)
+
+pub level_at_most_from_same : (l m : Level) → l ≡ m → AtMost l m
+level_at_most_from_same l m e = subst (λ (n : Level). AtMost l n) e (level_at_most_self l)

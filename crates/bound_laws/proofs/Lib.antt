@@ -1,5 +1,4 @@
 pub mod Bounding
-pub mod Ceilings
 pub mod Cleared
 pub mod Correspondence
 pub mod Directions

@@ -8,7 +8,7 @@ use Rattle.std.proofs.Math.Seq.{take-append_seam}
 use Rattle.std.proofs.lemmas.List.Elements.{All-get_or}
 use Rattle.exact_algebra.specs.Poly.{var, neg, ◌⊕◌, ◌⊖◌, ◌⊗◌}
 use Rattle.exact_algebra.proofs.Normal.{ring}
-use Rattle.exact_algebra.proofs.Order.{at_most_self, plus_at_most, times_at_most, times_below}
+use Rattle.exact_algebra.proofs.Order.{at_most_self, plus_at_most, times_at_most, times_below, times_swap}
 use Rattle.game_model.specs.Game.{states, counts, profile_count, successor, reached}
 use Rattle.game_model.specs.SelfGeneration.{HasNoEntry, part, sum_below, dot}
 use Rattle.level_table.specs.declared.level.Level.{Level}
@@ -29,7 +29,7 @@ use Rattle.bound_laws.specs.TableOf.{IsLevelOf}
 use Rattle.bound_laws.proofs.Bounding.{above_supported_bounds}
 use Rattle.bound_laws.proofs.Correspondence.{table_exists, table_is_supported, at_most_bound}
 use Rattle.bound_laws.proofs.Levels.{number_at_most}
-use Rattle.bound_laws.proofs.Order.{at_most_along, at_most_negated, below_along, loosen, minus_times, nought_times, swap, times_nought, widen}
+use Rattle.bound_laws.proofs.Order.{at_most_along, at_most_negated, below_along, loosen, minus_times, nought_times, times_nought, widen}
 use Rattle.bound_laws.proofs.Places.{next_state, reached_state, minus_axis_known}
 use Rattle.bound_laws.proofs.Sums.{sum_below-same, sum_below-times, sum_below-plus, sum_below-zero, sum_below-one}
 
@@ -113,7 +113,7 @@ contrary : (v : ℤ) → pos 0 ≤ℤ v → v <ℤ pos 0 → ⊥
 contrary v h k = omega (arith, ints)
 
 negative_product : (r d : ℤ) → pos 0 <ℤ d → r <ℤ pos 0 → (r *ℤ d) <ℤ pos 0
-negative_product r d positive negative = below_along (swap d r) (times_nought d) (times_below d r (pos 0) positive negative)
+negative_product r d positive negative = below_along (times_swap d r) (times_nought d) (times_below d r (pos 0) positive negative)
 
 certificate_refutes : (p : Problem) (keeps : Keeps) (u : Levels) (s a : ℕ) (y : Fractions) (list : List Item) → IsProblem p → KeepsAbove p keeps u → s < states p.game → a < profile_count (counts p.game s)
     → Admissible p u s a y → IsCertificate p keeps s a list → ⊥
@@ -132,7 +132,7 @@ certificate_refutes p keeps u s a y list ok kept state profile h certificate =
 abbrev IsEmptyWhereNamed : Problem → Levels → List Note → Type 0
 IsEmptyWhereNamed p u notes = (t : ℕ) → Named notes t → (k : ℕ) → k < direction_count p → u t k ≡ Empty
 
-first_direction : (p : Problem) → IsProblem p → 0 < direction_count p
+pub first_direction : (p : Problem) → IsProblem p → 0 < direction_count p
 first_direction p ok = omega (arith, ok.directions.has_axes, ok.directions.at_least_two_players)
 
 reason_refutes : (p : Problem) (keeps : Keeps) (u : Levels) (earlier : List Note) (s a : ℕ) (y : Fractions) (reason : Reason) → IsProblem p → KeepsAbove p keeps u → IsEmptyWhereNamed p u earlier

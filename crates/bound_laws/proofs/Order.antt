@@ -4,12 +4,9 @@ use Rattle.std.specs.Prelude.{ℤ, pos, ◌-ℤ◌, ◌*ℤ◌, ◌≤ℤ◌, �
 use Rattle.std.proofs.lemmas.Int.{ints}
 use Rattle.exact_algebra.specs.Poly.{var, lit, neg, ◌⊗◌}
 use Rattle.exact_algebra.proofs.Normal.{ring}
-use Rattle.exact_algebra.proofs.Order.{at_most_trans, at_most_from_times, times_at_most, below_from_times}
+use Rattle.exact_algebra.proofs.Order.{at_most_trans, at_most_from_times, times_at_most, below_from_times, times_swap}
 
 -- ---- equations
-pub swap : (a b : ℤ) → a *ℤ b ≡ b *ℤ a
-swap a b = ring (a ∷ b ∷ []) (var 0 ⊗ var 1) (var 1 ⊗ var 0) refl
-
 pub nought_times : (a : ℤ) → pos 0 *ℤ a ≡ pos 0
 nought_times a = ring (a ∷ []) (lit (pos 0) ⊗ var 0) (lit (pos 0)) refl
 
@@ -42,20 +39,20 @@ at_most_turned a b h = omega (arith, ints)
 -- n ≤ z * d and z ≤ x give n ≤ x * d
 pub widen : (d n z x : ℤ) → pos 0 <ℤ d → z ≤ℤ x → n ≤ℤ (z *ℤ d) → n ≤ℤ (x *ℤ d)
 widen d n z x positive h k =
-    at_most_trans n (z *ℤ d) (x *ℤ d) k (at_most_along (swap d z) (swap d x) (times_at_most d z x (omega (arith, ints)) h))
+    at_most_trans n (z *ℤ d) (x *ℤ d) k (at_most_along (times_swap d z) (times_swap d x) (times_at_most d z x (omega (arith, ints)) h))
 
 -- a greater level asks less of a deviation
 pub loosen : (d n gain z x : ℤ) → pos 0 <ℤ d → z ≤ℤ x → ((gain -ℤ z) *ℤ d) ≤ℤ n → ((gain -ℤ x) *ℤ d) ≤ℤ n
 loosen d n gain z x positive h k =
     at_most_trans ((gain -ℤ x) *ℤ d) ((gain -ℤ z) *ℤ d) n
-    (at_most_along (swap d (gain -ℤ x)) (swap d (gain -ℤ z)) (times_at_most d (gain -ℤ x) (gain -ℤ z) (omega (arith, ints)) (omega (arith, ints)))) k
+    (at_most_along (times_swap d (gain -ℤ x)) (times_swap d (gain -ℤ z)) (times_at_most d (gain -ℤ x) (gain -ℤ z) (omega (arith, ints)) (omega (arith, ints)))) k
 
 pub cancel : (d a b : ℤ) → pos 0 <ℤ d → (a *ℤ d) ≤ℤ (b *ℤ d) → a ≤ℤ b
-cancel d a b positive h = at_most_from_times d a b positive (at_most_along (swap a d) (swap b d) h)
+cancel d a b positive h = at_most_from_times d a b positive (at_most_along (times_swap a d) (times_swap b d) h)
 
 -- (x - 1) * d < v ≤ z * d gives x ≤ z
 pub between_multiples : (d v x z : ℤ) → pos 0 <ℤ d → ((x -ℤ pos 1) *ℤ d) <ℤ v → v ≤ℤ (z *ℤ d) → x ≤ℤ z
 between_multiples d v x z positive h k =
     let m : ((x -ℤ pos 1) *ℤ d) <ℤ (z *ℤ d) = omega (arith, ints) in
-    let n : (x -ℤ pos 1) <ℤ z = below_from_times d (x -ℤ pos 1) z (omega (arith, ints)) (below_along (swap (x -ℤ pos 1) d) (swap z d) m) in
+    let n : (x -ℤ pos 1) <ℤ z = below_from_times d (x -ℤ pos 1) z (omega (arith, ints)) (below_along (times_swap (x -ℤ pos 1) d) (times_swap z d) m) in
     omega (arith, ints)

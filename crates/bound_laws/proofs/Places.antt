@@ -9,7 +9,7 @@ each_positive g s ok state j within =
     let st : IsState g s = ok.each_state s state in
     st.some_strategy j (omega (arith, st.one_each))
 
-deviation_known : (g : DynamicGame) (s a i b : ℕ) → IsGame g → s < states g → a < profile_count (counts g s) → IsDeviation g s a i b → deviation_at g s a i b < profile_count (counts g s)
+pub deviation_known : (g : DynamicGame) (s a i b : ℕ) → IsGame g → s < states g → a < profile_count (counts g s) → IsDeviation g s a i b → deviation_at g s a i b < profile_count (counts g s)
 deviation_known g s a i b ok state profile d =
     let st : IsState g s = ok.each_state s state in
     let m : Moves (counts g s) a i b = moves (counts g s) a i b (each_positive g s ok state) profile (omega (arith, st.one_each, d.player)) d.strategy in

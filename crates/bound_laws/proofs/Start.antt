@@ -63,14 +63,14 @@ opening_is_start p ok =
     }
 
 -- ---- iterates
-between_is_below : (p : Problem) (t : Levels) → HasRange p t → IsBelow p t (opening_table p)
+pub between_is_below : (p : Problem) (t : Levels) → HasRange p t → IsBelow p t (opening_table p)
 between_is_below p t between s k row = at (t s k) (between s k row)
   where
     at : (l : Level) → IsBetween p k l → AtMost l (At (opening_level p k))
     at Empty h = tt
     at (At x) h = h.1
 
-lesser_is_between : (p : Problem) (k : ℕ) (l m : Level) → IsBetween p k l → IsBetween p k m → IsBetween p k (lesser l m)
+pub lesser_is_between : (p : Problem) (k : ℕ) (l m : Level) → IsBetween p k l → IsBetween p k m → IsBetween p k (lesser l m)
 lesser_is_between p k Empty m h n = tt
 lesser_is_between p k (At x) Empty h n = tt
 lesser_is_between p k (At x) (At y) h n = (at_least (opening_level p (opposite_of k)) h.0 n.0, at_most (opening_level p k) h.1 n.1)

@@ -12,7 +12,7 @@ use Rattle.game_model.specs.SelfGeneration.{Entry, no_entry, part, sum_below, do
 use Rattle.level_table.specs.Problem.{largest}
 
 -- what holds below n and at n holds below n + 1
-below_next : (P : ℕ → Type 0) (n : ℕ) → ((i : ℕ) → i < n → P i) → P n → (i : ℕ) → i < suc n → P i
+pub below_next : (P : ℕ → Type 0) (n : ℕ) → ((i : ℕ) → i < n → P i) → P n → (i : ℕ) → i < suc n → P i
 below_next P n before here i within = elim (cases_eq n i) [
   | inl same ↦ subst P same here
   | inr other ↦ before i (let ne : n ≢ i = other in omega arith)

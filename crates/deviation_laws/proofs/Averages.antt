@@ -8,9 +8,10 @@ use Rattle.std.proofs.lemmas.Bool.{eq-eqb}
 use Rattle.exact_algebra.specs.Poly.{var, lit, ◌⊕◌, ◌⊗◌}
 use Rattle.exact_algebra.proofs.Normal.{ring}
 use Rattle.exact_algebra.proofs.Order.{at_most_from_same}
-use Rattle.game_model.specs.Game.{DynamicGame, IsGame, IsProfile, IsDeviation, states, counts, profile_count, profile_number, strategies_of, strategy_at, successor, payoff_at}
+use Rattle.game_model.specs.Game.{DynamicGame, IsGame, IsProfile, IsDeviation, states, counts, profile_number, strategies_of, strategy_at, successor, payoff_at}
 use Rattle.game_model.specs.SelfGeneration.{Entry, Correspondence, IsGenerated, entries_of, entry_at, part, total_weight, weighted_part, profile_of, punishment}
 use Rattle.game_model.proofs.Profiles.{strategies_of-profile_number, profile_number_below, IsProfile-set}
+use Rattle.selfgen_check.proofs.Profiles.{one_each, plays}
 use Rattle.deviation_laws.specs.Plans.{profile_after, state_after, outcomes_after}
 
 -- the payoff after the strategy, discounted, in units of the entries' parts times q
@@ -23,12 +24,6 @@ pub record Follows (g : DynamicGame) (c : Correspondence) (s : ℕ) (e : Entry) 
   pub weight : 0 < total_weight os
   pub bound : ((now_of g c s e i b *ℤ pos (total_weight os)) +ℤ (pos (slice_index g.discounts i) *ℤ weighted_part (entries_of c (state_after g s e i b)) i os))
       ≤ℤ ((pos g.q *ℤ part e.point i) *ℤ pos (total_weight os))
-
-pub one_each : (g : DynamicGame) (s : ℕ) → IsGame g → s < states g → length (counts g s) ≡ g.players
-one_each g s ok state = (ok.each_state s state).one_each
-
-own_is : (g : DynamicGame) (s : ℕ) (e : Entry) (i : ℕ) → IsProfile (counts g s) e.profile → strategy_at g s (profile_of g s e) i ≡ get_or e.profile i 0
-own_is g s e i fits = ap (λ xs. get_or xs i 0) (strategies_of-profile_number (counts g s) e.profile fits)
 
 -- the entry's own strategy leads to its own profile
 stays : (g : DynamicGame) (s : ℕ) (e : Entry) (i : ℕ) → IsProfile (counts g s) e.profile → profile_after g s e i (strategy_at g s (profile_of g s e) i) ≡ profile_of g s e
@@ -93,13 +88,10 @@ pub follows : (g : DynamicGame) (c : Correspondence) (s : ℕ) (e : Entry) (i b 
     Follows g c s e i b (outcomes_after g s e i b)
 follows g c s e i b ok state made player within = follows_by g c s e i b ok state made player within (nat_eq b (strategy_at g s (profile_of g s e) i)) refl
 
-pub number_known : (g : DynamicGame) (s : ℕ) (e : Entry) → IsProfile (counts g s) e.profile → profile_of g s e < profile_count (counts g s)
-number_known g s e fits = profile_number_below (counts g s) e.profile fits
-
 -- the two cases of what may follow
 pub outcomes_own : (g : DynamicGame) (s : ℕ) (e : Entry) (i b : ℕ) → IsProfile (counts g s) e.profile → b ≡ get_or e.profile i 0 → outcomes_after g s e i b ≡ e.lottery
 outcomes_own g s e i b fits h =
-    let same : nat_eq b (strategy_at g s (profile_of g s e) i) ≡ true = eq-eqb b (strategy_at g s (profile_of g s e) i) (h ∙ sym (own_is g s e i fits)) in
+    let same : nat_eq b (strategy_at g s (profile_of g s e) i) ≡ true = eq-eqb b (strategy_at g s (profile_of g s e) i) (h ∙ sym (plays g s e i fits)) in
     ap (λ (t : Bool). if t then e.lottery else ((punishment g s e i b, 1) ∷ [])) same
 
 unequal : (x y : ℕ) → x ≢ y → nat_eq x y ≡ false
@@ -110,7 +102,7 @@ unequal x y h = elim (eqb_tells x y) [
 
 pub outcomes_other : (g : DynamicGame) (s : ℕ) (e : Entry) (i b : ℕ) → IsProfile (counts g s) e.profile → b ≢ get_or e.profile i 0 → outcomes_after g s e i b ≡ (punishment g s e i b, 1) ∷ []
 outcomes_other g s e i b fits h =
-    let other : nat_eq b (strategy_at g s (profile_of g s e) i) ≡ false = unequal b (strategy_at g s (profile_of g s e) i) (λ x. h (x ∙ own_is g s e i fits)) in
+    let other : nat_eq b (strategy_at g s (profile_of g s e) i) ≡ false = unequal b (strategy_at g s (profile_of g s e) i) (λ x. h (x ∙ plays g s e i fits)) in
     ap (λ (t : Bool). if t then e.lottery else ((punishment g s e i b, 1) ∷ [])) other
 
 -- what is read at a place, whatever stands for a missing item

@@ -3,7 +3,7 @@ use Rattle.std.proofs.Common.{◌≡◌, ℕ, ◌<◌, [], ◌∷◌, Result, re
 use Rattle.std.specs.Prelude.{ℤ, pos, ◌+ℤ◌, ◌-ℤ◌, ◌*ℤ◌, ◌<ℤ◌, ◌≤ℤ◌, neg_ℤ}
 use Rattle.std.specs.Int.{w64, w128}
 use Rattle.std.proofs.lemmas.Int.{ints, fits_signed_from_abs, to_z-of_z}
-use Rattle.exact_algebra.proofs.Order.{abs_neg, product_above_zero}
+use Rattle.exact_algebra.proofs.Order.{abs_neg, product_above_zero, positive_is}
 use Rattle.game_model.specs.Game.{DynamicGame}
 use Rattle.pay_frac.specs.Ratio.{Ratio, IsLowest, IsSmall, Equals}
 use Rattle.deviation_laws.specs.declared.gains.GainBeyond.{GainBeyond}
@@ -15,11 +15,8 @@ use Rattle.deviation_laws.proofs.Values.{Same, IsPositive, same_trans, product_a
 not_negative : (z : ℤ) → pos 0 ≤ℤ z → z ≡ pos (unsigned_abs z)
 not_negative z h = omega (arith, ints)
 
-above_zero : (z : ℤ) → pos 0 <ℤ z → z ≡ pos (unsigned_abs z)
-above_zero z h = omega (arith, ints)
-
 pub of_naturals : (f : Ratio) (w total : ℤ) → pos 0 ≤ℤ w → pos 0 <ℤ total → Equals f w total → Equals f (pos (unsigned_abs w)) (pos (unsigned_abs total))
-of_naturals f w total h k e = rw (← not_negative w h, ← above_zero total k) e
+of_naturals f w total h k e = rw (← not_negative w h, ← positive_is total k) e
 
 abbrev pub share_of : ℕ → ℕ → Fraction
 share_of w total = record { num = pos w; den = pos total }

@@ -1,5 +1,6 @@
 pub mod Cramer
 pub mod Extremes
+pub mod Fits
 pub mod Normal
 pub mod Order
 pub mod Poly

@@ -51,7 +51,7 @@ one_var a = same (a ∷ []) (lit (pos 1) ⊗ (var 0 ⊗ lit (pos 1)) ⊕ lit (po
 one_lit : (a : ℤ) → a *ℤ pos 1 +ℤ pos 0 ≡ a
 one_lit a = same (a ∷ []) (var 0 ⊗ lit (pos 1) ⊕ lit (pos 0)) (var 0) (omega arith)
 
-equal_if_apart_by_nought : (a b : ℤ) → a -ℤ b ≡ pos 0 → a ≡ b
+pub equal_if_apart_by_nought : (a b : ℤ) → a -ℤ b ≡ pos 0 → a ≡ b
 equal_if_apart_by_nought a b h =
     let e : a ≡ (a -ℤ b) +ℤ b = same (a ∷ b ∷ []) (var 0) ((var 0 ⊖ var 1) ⊕ var 1) (omega arith) in
     e ∙ ap (λ z. z +ℤ b) h ∙ sym (zero_plus b)

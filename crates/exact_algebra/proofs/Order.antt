@@ -113,3 +113,16 @@ within_abs a m h = (omega (arith, ints), omega (arith, ints))
 
 pub abs_within : (a : ℤ) (m : ℕ) → neg_ℤ (pos m) ≤ℤ a → a ≤ℤ pos m → unsigned_abs a ≤ m
 abs_within a m h k = omega (arith, ints)
+
+-- ---- signs
+pub positive_at_least_zero : (a : ℤ) → pos 0 <ℤ a → pos 0 ≤ℤ a
+positive_at_least_zero a h = omega (arith, ints)
+
+pub sum_at_least_zero : (a b : ℤ) → pos 0 ≤ℤ a → pos 0 ≤ℤ b → pos 0 ≤ℤ (a +ℤ b)
+sum_at_least_zero a b h k = omega (arith, ints)
+
+pub positive_is : (a : ℤ) → pos 0 <ℤ a → a ≡ pos (unsigned_abs a)
+positive_is a h = omega (arith, ints)
+
+pub times_swap : (a b : ℤ) → a *ℤ b ≡ b *ℤ a
+times_swap a b = ring (a ∷ b ∷ []) (var 0 ⊗ var 1) (var 1 ⊗ var 0) refl

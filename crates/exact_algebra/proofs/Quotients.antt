@@ -9,7 +9,7 @@ use lib.IntN.{neg_ℤ}
 use Rattle.exact_algebra.specs.Quotients.{IsCeiling, IsFloor}
 use Rattle.exact_algebra.specs.Poly.{var, lit, neg, ◌⊕◌, ◌⊖◌, ◌⊗◌}
 use Rattle.exact_algebra.proofs.Normal.{ring}
-use Rattle.exact_algebra.proofs.Order.{below_from_times, at_most_below_trans, below_at_most_trans, at_most_trans, at_most_from_times, times_at_most, same_from_at_most}
+use Rattle.exact_algebra.proofs.Order.{below_from_times, at_most_below_trans, below_at_most_trans, at_most_trans, at_most_from_times, times_at_most, same_from_at_most, times_swap}
 
 -- what a quotient of naturals says of products
 below_next : (a d : ℕ) → 0 < d → a < (a / d + 1) * d
@@ -107,9 +107,6 @@ floor_fits w (negsuc a) (pos d) f q = record { sfits = omega (arith, f.sfits, di
 floor_fits w n (negsuc d) f q = absurd (omega (arith, ints))
 
 -- ---- the laws, from the defining inequalities alone
-swap : (a b : ℤ) → a *ℤ b ≡ b *ℤ a
-swap a b = ring (a ∷ b ∷ []) (var 0 ⊗ var 1) (var 1 ⊗ var 0) refl
-
 next_at_most : (x y : ℤ) → (x -ℤ pos 1) <ℤ y → x ≤ℤ y
 next_at_most x y h = omega (arith, ints)
 
@@ -120,14 +117,14 @@ at_most_next x y h = omega (arith, ints)
 pub rounded_up_at_most : (n d x y : ℤ) → pos 0 <ℤ d → ((x -ℤ pos 1) *ℤ d) <ℤ n → n ≤ℤ (y *ℤ d) → x ≤ℤ y
 rounded_up_at_most n d x y p h k =
     let l : ((x -ℤ pos 1) *ℤ d) <ℤ (y *ℤ d) = below_at_most_trans ((x -ℤ pos 1) *ℤ d) n (y *ℤ d) h k in
-    let m : (d *ℤ (x -ℤ pos 1)) <ℤ (d *ℤ y) = subst (λ z. z <ℤ (d *ℤ y)) (swap (x -ℤ pos 1) d) (subst (λ z. ((x -ℤ pos 1) *ℤ d) <ℤ z) (swap y d) l) in
+    let m : (d *ℤ (x -ℤ pos 1)) <ℤ (d *ℤ y) = subst (λ z. z <ℤ (d *ℤ y)) (times_swap (x -ℤ pos 1) d) (subst (λ z. ((x -ℤ pos 1) *ℤ d) <ℤ z) (times_swap y d) l) in
     next_at_most x y (below_from_times d (x -ℤ pos 1) y (omega (arith, ints)) m)
 
 -- a number that is at most a fraction, and a fraction below another number's next
 pub rounded_down_at_most : (n d x y : ℤ) → pos 0 <ℤ d → (x *ℤ d) ≤ℤ n → n <ℤ ((y +ℤ pos 1) *ℤ d) → x ≤ℤ y
 rounded_down_at_most n d x y p h k =
     let l : (x *ℤ d) <ℤ ((y +ℤ pos 1) *ℤ d) = at_most_below_trans (x *ℤ d) n ((y +ℤ pos 1) *ℤ d) h k in
-    let m : (d *ℤ x) <ℤ (d *ℤ (y +ℤ pos 1)) = subst (λ z. z <ℤ (d *ℤ (y +ℤ pos 1))) (swap x d) (subst (λ z. (x *ℤ d) <ℤ z) (swap (y +ℤ pos 1) d) l) in
+    let m : (d *ℤ x) <ℤ (d *ℤ (y +ℤ pos 1)) = subst (λ z. z <ℤ (d *ℤ (y +ℤ pos 1))) (times_swap x d) (subst (λ z. (x *ℤ d) <ℤ z) (times_swap (y +ℤ pos 1) d) l) in
     at_most_next x y (below_from_times d x (y +ℤ pos 1) (omega (arith, ints)) m)
 
 pub ceiling_at_most_each : (n d q y : ℤ) → pos 0 <ℤ d → IsCeiling n d q → n ≤ℤ (y *ℤ d) → q ≤ℤ y
@@ -148,7 +145,7 @@ ceiling_monotone n d m e q r p s le h k =
     let f : d *ℤ (r *ℤ e) ≡ e *ℤ (r *ℤ d) = ring (d ∷ r ∷ e ∷ []) (var 0 ⊗ (var 1 ⊗ var 2)) (var 2 ⊗ (var 1 ⊗ var 0)) refl in
     let b : (e *ℤ n) ≤ℤ (e *ℤ (r *ℤ d)) =
     at_most_trans (e *ℤ n) (d *ℤ m) (e *ℤ (r *ℤ d))
-    (subst (λ z. z ≤ℤ (d *ℤ m)) (swap n e) (subst (λ z. (n *ℤ e) ≤ℤ z) (swap m d) le))
+    (subst (λ z. z ≤ℤ (d *ℤ m)) (times_swap n e) (subst (λ z. (n *ℤ e) ≤ℤ z) (times_swap m d) le))
     (subst (λ z. (d *ℤ m) ≤ℤ z) f a) in
     rounded_up_at_most n d q r p h.no_less (at_most_from_times e n (r *ℤ d) s b)
 

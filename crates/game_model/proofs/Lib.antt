@@ -1,3 +1,5 @@
+pub mod Cases
+pub mod Dilemma
 pub mod Faults
 pub mod Lists
 pub mod Multiples

@@ -4,15 +4,7 @@ use Rattle.std.proofs.lemmas.Int.{ints}
 use Rattle.game_model.specs.Game.{IsDeviation}
 use Rattle.game_model.specs.SelfGeneration.{Correspondence, entries_of, entry_at, IsGenerated, IsSelfGenerating}
 use Rattle.game_model.specs.Worked.{prisoners, both, defection, cooperation, rewarded, promised_more, weightless, third_entry, one_punishment, third_strategy}
-
-below_one : (P : ℕ → Type 0) → P 0 → (i : ℕ) → i < 1 → P i
-below_one P a zero h = a
-below_one P a (suc i) h = absurd (omega arith)
-
-below_two : (P : ℕ → Type 0) → P 0 → P 1 → (i : ℕ) → i < 2 → P i
-below_two P a b zero h = a
-below_two P a b (suc zero) h = b
-below_two P a b (suc (suc i)) h = absurd (omega arith)
+use Rattle.game_model.proofs.Cases.{below_one, below_two}
 
 -- the deviations where both defect
 from_defection : (p q : ℕ) (P : ℕ → ℕ → Type 0) → P 0 0 → P 1 0 → (i b : ℕ) → IsDeviation (prisoners p q) 0 3 i b → P i b

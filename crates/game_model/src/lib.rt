@@ -2,10 +2,9 @@
 #![tactic(auto)]
 
 mod game;
-mod list;
 mod parts;
 pub mod worked;
 
 pub use game::Game;
-pub use list::List;
+pub use lists::List;
 pub use parts::{GameParts, ShapeFault, ShapeWhat};

@@ -1,9 +1,14 @@
-//! Worked examples and laws of the definitions. Each is the contract of a function that does nothing.
+//! Worked examples and laws of the definitions. Each is the contract of a function that does nothing, but for `dilemma`, which
+//! makes the parts of one game.
 
-ghost use Rattle.std.specs.Prelude.{◌≡◌, ℕ, ◌<◌, ◌≤◌, List, [], ◌∷◌, length, slice_index};
+ghost use Rattle.std.specs.Prelude.{◌≡◌, ℕ, ◌<◌, ◌≤◌, List, [], ◌∷◌, IfOk, length, slice_index};
 ghost use Rattle.game_model.specs.Game.{IsProfile, profile_count, profile_number, strategies_of};
+ghost use Rattle.game_model.specs.Parts.{shape_of};
 ghost use Rattle.game_model.specs.SelfGeneration.{IsSelfGenerating};
 ghost use Rattle.game_model.specs.Worked.{prisoners, both, rewarded, promised_more, weightless, third_entry, one_punishment, third_strategy};
+
+use super::parts::GameParts;
+use std::alloc::{AllocError, Global};
 
 /// In the prisoner's dilemma, defection for ever and cooperation under the threat of it are
 /// self-generating at discount factor 1/2, which is the least, and not at 499/1000.
@@ -31,3 +36,21 @@ pub fn profiles_are_numbered()
     ensures profile { (sizes : List ℕ) (a : ℕ) → ((i : ℕ) → i < length sizes → 1 ≤ slice_index sizes i) → IsProfile sizes (strategies_of sizes a) }
     ensures worked { strategies_of (3 ∷ 2 ∷ []) 4 ≡ 1 ∷ 1 ∷ [] }
 {}
+
+/// The parts of the prisoner's dilemma at discount factor 1/2, on which tests of the crates above rest.
+pub fn dilemma(alloc: Global) -> Result<GameParts, AllocError>
+    ensures { IfOk result (λ p. shape_of p ≡ prisoners 1 2) }
+{
+    let sizes = vec![in alloc; 2, 2]?;
+    let payoffs = vec![in alloc; 2, 2, 3, 0, 0, 3, 1, 1]?;
+    let next = vec![in alloc; 0, 0, 0, 0]?;
+    Ok(GameParts {
+        players: 2,
+        strategies: vec![in alloc; sizes]?,
+        payoffs: vec![in alloc; payoffs]?,
+        next: vec![in alloc; next]?,
+        denominator: 1,
+        discounts: vec![in alloc; 1, 1]?,
+        q: 2,
+    })
+}

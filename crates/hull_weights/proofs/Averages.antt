@@ -3,8 +3,8 @@ use Rattle.std.proofs.Common.{◌≡◌, ℕ, suc, ◌+◌, ◌<◌, ◌≤◌, 
 use Rattle.std.specs.Prelude.{ℤ, pos, ◌+ℤ◌, ◌-ℤ◌, ◌*ℤ◌, ◌≤ℤ◌, ◌<ℤ◌, All}
 use Rattle.std.proofs.lemmas.Int.{ints}
 use Rattle.exact_algebra.specs.Poly.{var, lit, ◌⊕◌, ◌⊖◌, ◌⊗◌}
-use Rattle.exact_algebra.proofs.Normal.{ring}
-use Rattle.exact_algebra.proofs.Order.{at_most_by, product_at_least_zero, same_from_times}
+use Rattle.exact_algebra.proofs.Normal.{ring, equal_if_apart_by_nought}
+use Rattle.exact_algebra.proofs.Order.{at_most_by, product_at_least_zero, same_from_times, sum_at_least_zero}
 use Rattle.hull_weights.specs.Hull.{x_of, y_of, dot, point_at, weighted, total_weight, IsInHull, Separates, IsTriangle}
 use Rattle.hull_weights.specs.declared.arrow.Arrow.{Arrow}
 use Rattle.hull_weights.specs.declared.cone.Cone.{Cone}
@@ -15,9 +15,6 @@ use Rattle.hull_weights.specs.LowestTerms.{IsLowestTerms}
 use Rattle.hull_weights.proofs.Plane.{factor_positive}
 
 -- ---- a target that is separated is no average
-not_negative_sum : (a b : ℤ) → pos 0 ≤ℤ a → pos 0 ≤ℤ b → pos 0 ≤ℤ (a +ℤ b)
-not_negative_sum a b h k = omega (arith, ints)
-
 gap_of : (a b : ℤ) → a <ℤ b → pos 0 ≤ℤ (b -ℤ a -ℤ pos 1)
 gap_of a b h = omega (arith, ints)
 
@@ -32,7 +29,7 @@ step w total n nx ny px py sx sy w_least beyond rest =
     ((var 0 ⊗ lit (pos 1) ⊕ var 1) ⊗ var 2 ⊖ (var 3 ⊗ (var 0 ⊗ var 5 ⊕ var 7) ⊕ var 4 ⊗ (var 0 ⊗ var 6 ⊕ var 8)))
     ((var 1 ⊗ var 2 ⊖ (var 3 ⊗ var 7 ⊕ var 4 ⊗ var 8) ⊖ var 1) ⊕ var 0 ⊗ (var 2 ⊖ (var 3 ⊗ var 5 ⊕ var 4 ⊗ var 6) ⊖ lit (pos 1)))
     refl
-    (not_negative_sum _ _ (room_of _ _ rest) (product_at_least_zero w (n -ℤ (nx *ℤ px +ℤ ny *ℤ py) -ℤ pos 1) w_least (gap_of _ _ beyond)))
+    (sum_at_least_zero _ _ (room_of _ _ rest) (product_at_least_zero w (n -ℤ (nx *ℤ px +ℤ ny *ℤ py) -ℤ pos 1) w_least (gap_of _ _ beyond)))
 
 exceeds : (points : List (List ℤ)) (target normal : List ℤ) (items : List (ℕ × ℤ)) → Separates points target normal → All (λ item. item.0 < length points) items → All (λ item. pos 0 ≤ℤ item.1) items
     → total_weight items ≤ℤ (total_weight items *ℤ dot normal target -ℤ (x_of normal *ℤ weighted (λ i. x_of (point_at points i)) items +ℤ y_of normal *ℤ weighted (λ i. y_of (point_at points i)) items))
@@ -71,11 +68,8 @@ weighted-difference value t (item ∷ items) =
     (var 0 ⊗ var 1 ⊕ var 3 ⊖ (var 0 ⊗ lit (pos 1) ⊕ var 4) ⊗ var 2)
     refl
 
-same_from_nought : (a b : ℤ) → a -ℤ b ≡ pos 0 → a ≡ b
-same_from_nought a b e = omega (arith, ints)
-
 average_from_nought : (value : ℕ → ℤ) (t : ℤ) (items : List (ℕ × ℤ)) → weighted (λ i. value i -ℤ t) items ≡ pos 0 → weighted value items ≡ total_weight items *ℤ t
-average_from_nought value t items e = same_from_nought _ _ (sym (weighted-difference value t items) ∙ e)
+average_from_nought value t items e = equal_if_apart_by_nought _ _ (sym (weighted-difference value t items) ∙ e)
 
 pos_above : (n : ℕ) → 0 < n → pos 0 <ℤ pos n
 pos_above n h = omega (arith, ints)

@@ -2,6 +2,7 @@
 use Rattle.std.proofs.Common.{◌≡◌, ◌<◌, ◌≢◌, refl, inl, inr, arith}
 use Rattle.std.specs.Prelude.{ℤ, pos, ◌≤ℤ◌, ◌<ℤ◌, neg_ℤ}
 use Rattle.std.proofs.lemmas.Int.{ints}
+use Rattle.exact_algebra.proofs.Order.{positive_at_least_zero}
 use Rattle.hull_weights.specs.declared.arrow.Arrow.{Arrow}
 use Rattle.hull_weights.specs.declared.cone.Cone.TheVariants.{Ray, Wedge}
 use Rattle.hull_weights.specs.Cone.{turn, ahead, IsWider}
@@ -12,9 +13,6 @@ at_most_self_zero z e = (omega (arith, ints), omega (arith, ints))
 
 negative_at_most : (z : ℤ) → z <ℤ pos 0 → z ≤ℤ pos 0
 negative_at_most z h = omega (arith, ints)
-
-positive_at_least : (z : ℤ) → pos 0 <ℤ z → pos 0 ≤ℤ z
-positive_at_least z h = omega (arith, ints)
 
 negative_below_zero : (z s : ℤ) → z <ℤ pos 0 → s ≡ pos 0 → z <ℤ s
 negative_below_zero z s h e = omega (arith, ints)
@@ -62,7 +60,7 @@ wedge_left right left arrow proper earlier from_right from_left =
           let both = wider_left (turn right left.x left.y) (turn arrow left.x left.y) (turn right arrow.x arrow.y) (turn right x y) (turn left x y) (turn arrow x y) proper side from_right h.0 h.1 h.2
           (turn_turn right.x right.y left.x left.y arrow.x arrow.y x y) in
           (h.0, both.0, both.1);
-      takes = (positive_at_least _ from_right, (at_most_self_zero _ self).1, zero_below_positive _ _ from_right self);
+      takes = (positive_at_least_zero _ from_right, (at_most_self_zero _ self).1, zero_below_positive _ _ from_right self);
     }
 
 -- ---- beside a ray
@@ -85,7 +83,7 @@ ray_left only arrow proper earlier side =
           let below : turn arrow x y <ℤ pos 0 = beside_negative (ahead only only.x only.y) (ahead only x y) (turn arrow only.x only.y) (turn only x y) (ahead arrow only.x only.y) (turn arrow x y) proper h.1 h.0
           (ahead_turn only.x only.y arrow.x arrow.y x y) back in
           ((at_most_self_zero _ h.0).0, negative_at_most _ below, negative_below_zero _ _ below h.0);
-      takes = (positive_at_least _ side, (at_most_self_zero _ self).1, zero_below_positive _ _ side self);
+      takes = (positive_at_least_zero _ side, (at_most_self_zero _ self).1, zero_below_positive _ _ side self);
     }
 
 pub ray_right : (only arrow : Arrow) → pos 0 <ℤ ahead only only.x only.y → only.index < arrow.index → turn only arrow.x arrow.y <ℤ pos 0 → IsWider (Ray only) arrow (Wedge arrow only)
@@ -98,6 +96,6 @@ ray_right only arrow proper earlier side =
       keeps = λ x y h.
           let above : pos 0 <ℤ turn arrow x y = beside_positive (ahead only only.x only.y) (ahead only x y) (turn arrow only.x only.y) (turn only x y) (ahead arrow only.x only.y) (turn arrow x y) proper h.1 h.0
           (ahead_turn only.x only.y arrow.x arrow.y x y) back in
-          (positive_at_least _ above, (at_most_self_zero _ h.0).1, zero_below_positive _ _ above h.0);
+          (positive_at_least_zero _ above, (at_most_self_zero _ h.0).1, zero_below_positive _ _ above h.0);
       takes = ((at_most_self_zero _ self).0, negative_at_most _ side, negative_below_zero _ _ side self);
     }

@@ -4,7 +4,7 @@ use Rattle.std.specs.Prelude.{ℤ, pos, ◌+ℤ◌, ◌-ℤ◌, ◌*ℤ◌, ◌�
 use Rattle.std.proofs.lemmas.Int.{ints, by_lt_z}
 use Rattle.exact_algebra.specs.Poly.{var, lit, neg, ◌⊕◌, ◌⊖◌, ◌⊗◌}
 use Rattle.exact_algebra.proofs.Normal.{ring}
-use Rattle.exact_algebra.proofs.Order.{product_at_least_zero, product_above_zero, at_most_from_times, below_from_times}
+use Rattle.exact_algebra.proofs.Order.{product_at_least_zero, product_above_zero, at_most_from_times, below_from_times, positive_at_least_zero, sum_at_least_zero}
 
 -- ---- identities
 pub turn_turn : (rx ry lx ly ax ay px py : ℤ) → (rx *ℤ ly -ℤ ry *ℤ lx) *ℤ (ax *ℤ py -ℤ ay *ℤ px) ≡ (ax *ℤ ly -ℤ ay *ℤ lx) *ℤ (rx *ℤ py -ℤ ry *ℤ px) +ℤ (rx *ℤ ay -ℤ ry *ℤ ax) *ℤ (lx *ℤ py -ℤ ly *ℤ px)
@@ -59,9 +59,6 @@ ray_cancels_y rx ry ax ay straight =
     ∙ times_nought rx (rx *ℤ ay -ℤ ry *ℤ ax) straight
 
 -- ---- signs
-sum_not_negative : (a b : ℤ) → pos 0 ≤ℤ a → pos 0 ≤ℤ b → pos 0 ≤ℤ (a +ℤ b)
-sum_not_negative a b h k = omega (arith, ints)
-
 sum_positive : (a b : ℤ) → pos 0 <ℤ a → pos 0 ≤ℤ b → pos 0 <ℤ (a +ℤ b)
 sum_positive a b h k = omega (arith, ints)
 
@@ -70,12 +67,9 @@ factor_not_negative d p s h e k =
     at_most_from_times d (pos 0) p h
     (subst (λ z. z ≤ℤ (d *ℤ p)) (sym (times_nought d (pos 0) refl)) (subst (λ z. pos 0 ≤ℤ z) (sym e) k))
 
-at_least_from_above : (z : ℤ) → pos 0 <ℤ z → pos 0 ≤ℤ z
-at_least_from_above z h = omega (arith, ints)
-
 pub factor_positive : (d p s : ℤ) → pos 0 <ℤ d → d *ℤ p ≡ s → pos 0 <ℤ s → pos 0 <ℤ p
 factor_positive d p s h e k =
-    below_from_times d (pos 0) p (at_least_from_above d h)
+    below_from_times d (pos 0) p (positive_at_least_zero d h)
     (subst (λ z. z <ℤ (d *ℤ p)) (sym (times_nought d (pos 0) refl)) (subst (λ z. pos 0 <ℤ z) (sym e) k))
 
 both_negative : (e m : ℤ) → e <ℤ pos 0 → m ≤ℤ pos 0 → pos 0 ≤ℤ (e *ℤ m)
@@ -99,8 +93,8 @@ below_when_negative m p h k = omega (arith, ints)
 pub wider_right : (d c e r m p : ℤ) → pos 0 <ℤ d → pos 0 <ℤ c → e <ℤ pos 0 → pos 0 ≤ℤ r → m ≤ℤ pos 0 → m <ℤ r → d *ℤ p ≡ c *ℤ r +ℤ e *ℤ m → (pos 0 ≤ℤ p) × (m <ℤ p)
 wider_right d c e r m p d_above c_above e_below r_least m_most apart is =
     let second : pos 0 ≤ℤ (e *ℤ m) = both_negative e m e_below m_most in
-    let first : pos 0 ≤ℤ (c *ℤ r) = product_at_least_zero c r (at_least_from_above c c_above) r_least in
-    let not_negative : pos 0 ≤ℤ p = factor_not_negative d p (c *ℤ r +ℤ e *ℤ m) d_above is (sum_not_negative (c *ℤ r) (e *ℤ m) first second) in (
+    let first : pos 0 ≤ℤ (c *ℤ r) = product_at_least_zero c r (positive_at_least_zero c c_above) r_least in
+    let not_negative : pos 0 ≤ℤ p = factor_not_negative d p (c *ℤ r +ℤ e *ℤ m) d_above is (sum_at_least_zero (c *ℤ r) (e *ℤ m) first second) in (
       not_negative,
       by_lt_z m (pos 0)
           (λ negative. below_when_negative m p negative not_negative)

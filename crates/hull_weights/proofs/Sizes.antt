@@ -123,9 +123,6 @@ weight_below weight r z is e small most =
     let abs : weight ≡ unsigned_abs r = is ∙ ap unsigned_abs plain in
     record { value = ap pos (abs ∙ ap unsigned_abs e) ∙ neg_abs z most; small = omega arith }
 
-pub at_least : (z : ℤ) → pos 0 <ℤ z → pos 0 ≤ℤ z
-at_least z h = omega (arith, ints)
-
 pub straight : (z : ℤ) → z ≤ℤ pos 0 → pos 0 ≤ℤ z → z ≡ pos 0
 straight z h k = omega (arith, ints)
 

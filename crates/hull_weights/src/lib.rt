@@ -1,7 +1,7 @@
 //! Whether a point of the plane is an average of others, answered with weights or with a line between.
 #![tactic(auto)]
 
-ghost use Rattle.std.specs.Prelude.{◌≡◌, ◌+◌, ◌^◌, ◌<◌, ◌↔◌, [], ◌∷◌, ◌++◌, All, IsTrue, length, slice_get};
+ghost use Rattle.std.specs.Prelude.{◌≡◌, ◌+◌, ◌^◌, ◌<◌, ◌↔◌, All, IsTrue, length};
 ghost use Rattle.hull_weights.specs.Answer.{IfOutside, IfWeights, IsOutside};
 ghost use Rattle.hull_weights.specs.Cone.{IsArrow, Spans};
 ghost use Rattle.hull_weights.specs.Hull.{IsInHull, IsSmallNormal, IsSmallPoint, IsTriangle, Separates};
@@ -10,58 +10,12 @@ mod arrow;
 mod cone;
 mod lowest_terms;
 
-use arrayvec::ArrayVec;
 use arrow::Arrow;
 use cone::{Balance, Cone, Step};
-use std::marker::Model;
+use lists::Few;
 
 /// Indices of points with their weights, at most three.
-#[derive(Debug, Drop)]
-pub struct HullWeights {
-    items: ArrayVec<(u32, i128), 3>,
-}
-
-impl Model for HullWeights {
-    ghost use Rattle.std.specs.Prelude.{List, ℕ, ℤ};
-
-    ghost Value = { List (ℕ × ℤ) };
-
-    ghost view = { λ w. w.items.items };
-}
-
-impl HullWeights {
-    /// No index.
-    pub fn new() -> HullWeights
-        ensures { result ≡ [] }
-    {
-        HullWeights {
-            items: ArrayVec::new(),
-        }
-    }
-
-    /// The number of indices.
-    pub fn len(&self) -> u32
-        ensures { result ≡ length self.now }
-    {
-        self.items.len() as u32
-    }
-
-    /// The index and the weight that stand at place `i`.
-    pub fn get(&self, i: u32) -> &(u32, i128)
-        requires { i < length self.now }
-        ensures { slice_get self.now i ≡ Some result.now }
-    {
-        &self.items[i as usize]
-    }
-
-    /// Adds an index with its weight at the end.
-    pub fn push(&mut self, item: (u32, i128))
-        requires { length self.old < 3 }
-        ensures { self.new ≡ self.old ++ item ∷ [] }
-    {
-        self.items.push(item);
-    }
-}
+pub type HullWeights = Few<(u32, i128), 3>;
 
 /// Where a target lies.
 #[derive(Debug, Drop)]

@@ -1,26 +1,11 @@
 -- The games of the tests keep the limits.
-use Rattle.std.proofs.Common.{◌≡◌, ℕ, zero, suc, ◌*◌, ◌<◌, ◌≤◌, ◌^◌, [], ◌∷◌, length, get_or, refl, arith, lit<, lit≤, neg_ℤ, pos, ◌≤ℤ◌}
+use Rattle.std.proofs.Common.{ℕ, zero, suc, ◌<◌, ◌≤◌, ◌^◌, [], ◌∷◌, length, get_or, refl, arith, lit<, lit≤, neg_ℤ, pos, ◌≤ℤ◌}
 use Rattle.std.specs.Prelude.{slice_index}
 use Rattle.std.proofs.lemmas.Int.{ints}
 use Rattle.game_model.specs.Game.{counts}
 use Rattle.game_model.specs.Parts.{KeepLimits}
+use Rattle.game_model.proofs.Cases.{in_range, two_at, divides_one, below_one}
 use Rattle.level_table.specs.Worked.{one_profile}
-
-two_at : (x : ℕ) (P : ℕ → Type 0) → P x → (i : ℕ) → i < 2 → P (get_or (x ∷ x ∷ []) i 0)
-two_at x P a zero h = a
-two_at x P a (suc zero) h = a
-two_at x P a (suc (suc i)) h = absurd (omega arith)
-
-divides_one : (d k : ℕ) → 1 ≡ d * k → d ≤ 1
-divides_one d zero e = absurd (omega arith)
-divides_one d (suc k) e = omega arith
-
-one_state : (P : ℕ → Type 0) → P 0 → (s : ℕ) → s < 1 → P s
-one_state P a zero h = a
-one_state P a (suc s) h = absurd (omega arith)
-
-in_range : (x : ℕ) → x ≤ 3 → (neg_ℤ (pos (2 ^ 26)) ≤ℤ pos x) × (pos x ≤ℤ pos (2 ^ 26))
-in_range x h = (omega (arith, ints), omega (arith, ints))
 
 one_payoffs : (k : ℕ) → k < 2 → (neg_ℤ (pos (2 ^ 26)) ≤ℤ get_or (pos 1 ∷ pos 2 ∷ []) k (pos 0)) × (get_or (pos 1 ∷ pos 2 ∷ []) k (pos 0) ≤ℤ pos (2 ^ 26))
 one_payoffs zero h = in_range 1 (lit≤ tt)
@@ -35,9 +20,9 @@ one_keeps_limits = record {
   few_states = lit≤ tt;
   payoffs_listed = refl;
   next_listed = refl;
-  some_strategy = λ s i hs hi. one_state (λ s. (i : ℕ) → i < length (counts one_profile s) → 1 ≤ slice_index (counts one_profile s) i) (two_at 1 (λ m. 1 ≤ m) (lit≤ tt)) s hs i hi;
-  few_strategies = λ s i hs hi. one_state (λ s. (i : ℕ) → i < length (counts one_profile s) → slice_index (counts one_profile s) i ≤ 16) (two_at 1 (λ m. m ≤ 16) (lit≤ tt)) s hs i hi;
-  payoffs_small = λ s k hs hk. one_state (λ s. (k : ℕ) → k < length (get_or one_profile.payoffs s []) → (neg_ℤ (pos (2 ^ 26)) ≤ℤ get_or (get_or one_profile.payoffs s []) k (pos 0)) × (get_or (get_or one_profile.payoffs s []) k (pos 0) ≤ℤ pos (2 ^ 26))) one_payoffs s hs k hk;
+  some_strategy = λ s i hs hi. below_one (λ s. (i : ℕ) → i < length (counts one_profile s) → 1 ≤ slice_index (counts one_profile s) i) (two_at 1 (λ m. 1 ≤ m) (lit≤ tt)) s hs i hi;
+  few_strategies = λ s i hs hi. below_one (λ s. (i : ℕ) → i < length (counts one_profile s) → slice_index (counts one_profile s) i ≤ 16) (two_at 1 (λ m. m ≤ 16) (lit≤ tt)) s hs i hi;
+  payoffs_small = λ s k hs hk. below_one (λ s. (k : ℕ) → k < length (get_or one_profile.payoffs s []) → (neg_ℤ (pos (2 ^ 26)) ≤ℤ get_or (get_or one_profile.payoffs s []) k (pos 0)) × (get_or (get_or one_profile.payoffs s []) k (pos 0) ≤ℤ pos (2 ^ 26))) one_payoffs s hs k hk;
   denominator_positive = omega (arith, ints);
   denominator_small = omega (arith, ints);
   discounts_listed = refl;

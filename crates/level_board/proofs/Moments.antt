@@ -1,5 +1,5 @@
 -- Each call is an event of the core.
-use Rattle.std.proofs.Common.{◌≡◌, ℕ, zero, suc, ◌<◌, List, [], ◌∷◌, map, length, get_or, set, refl, sym, ap, ◌∙◌, subst, true, false, inl, inr, arith}
+use Rattle.std.proofs.Common.{◌≡◌, ℕ, zero, suc, ◌<◌, List, [], ◌∷◌, map, length, get_or, set, refl, sym, ap, ◌∙◌, subst, true, false, inl, inr}
 use Rattle.std.specs.Prelude.{ℤ}
 use Rattle.std.proofs.lemmas.List.{get_or-set_same, get_or-set_other, set_past, length-set}
 use Rattle.std.proofs.lemmas.Bool.{cases_eq, cases_lt}
@@ -10,15 +10,14 @@ use Rattle.level_table.specs.declared.level.Level.{Level}
 use Rattle.level_table.specs.declared.level.Level.TheVariants.{Empty, At}
 use Rattle.level_table.specs.declared.reason.Note.{Note}
 use Rattle.level_table.specs.Levels.{Table, AtMost, IsSmall, level_at, lesser}
-use Rattle.level_table.specs.Tables.{word_at}
-use Rattle.bound_laws.proofs.Levels.{level_at_most_self, level_at_most_trans, lesser_at_most}
+use Rattle.level_table.specs.Tables.{kept_word}
+use Rattle.bound_laws.proofs.Levels.{level_at_most_self, level_at_most_trans, lesser_at_most, lesser_at_most_second}
 use Rattle.schedule_core.specs.declared.event.Event.{Event}
 use Rattle.schedule_core.specs.declared.event.Event.TheVariants as events
 use Rattle.schedule_core.specs.Frame.{Frame, AreKept, IsFallen, IsRowLevelOf, IsSeen, NamedRow, lesser_each, lesser_table, rows_of, with_level}
 use Rattle.schedule_core.specs.Core.{Core, IsWorking, Reader, reader_at, sees, word_in}
-use Rattle.schedule_core.proofs.Levels.{lesser_at_most_second}
-use Rattle.schedule_core.proofs.Lists.{at_map, from_map, got, there}
-use Rattle.schedule_core.proofs.Words.{valid_readers}
+use Rattle.schedule_core.proofs.Lists.{at_map, got, there}
+use Rattle.schedule_core.proofs.Words.{valid_readers, length-lesser}
 use Rattle.level_board.specs.declared.view.View.{View}
 use Rattle.level_board.specs.Board.{HasValidState, IsEvent, OwnerView}
 use Rattle.level_board.specs.Rule.{Cleared, IsOwner, Keeps, Looked, Lowered, Moment, frame_of, reader_of}
@@ -129,7 +128,7 @@ looked_event v r n w f t u l told unspent same seen new is within =
     (load_event (frame_of v) (reader_of v) r told.found.level told.found.moment unspent (subst (λ (g : Frame). r < rows_of g) (sym same) within))
 
 pub lowered_event : (v : View) (r k n : ℕ) (w : View) (f : Frame) (t u : Table) (l : Level) (x : ℤ) (told : Lowered v r k n w) → v.spent ≡ false → frame_of v ≡ f → v.seen ≡ t → w.seen ≡ u → l ≡ told.found.level → r < rows_of f
-    → IsSmall (At x) → k ≡ word_at (At x) → IsRowLevelOf f t r (At x) → IsEvent f (λ y. events.Lower y r x) r t l u
+    → IsSmall (At x) → k ≡ kept_word (At x) → IsRowLevelOf f t r (At x) → IsEvent f (λ y. events.Lower y r x) r t l u
 lowered_event v r k n w f t u l x told unspent same seen new is within small word level =
     event_along (frame_of v) f (λ y. events.Lower y r x) r v.seen t told.found.level l (with_level v.seen r (lesser told.found.level (At x))) u same seen (sym is) (sym (ap (λ (y : View). y.seen) (told.seen (At x) small word)) ∙ new)
     (lower_event (frame_of v) (reader_of v) r told.found.level x told.found.moment unspent (subst (λ (g : Frame). r < rows_of g) (sym same) within)
@@ -148,11 +147,6 @@ fallen_trans t u v h k = record {
   one_each = k.one_each ∙ h.one_each;
   fell = λ r. level_at_most_trans (level_at v r) (level_at u r) (level_at t r) (k.fell r) (h.fell r);
 }
-
-length-lesser : (ls ms : List Level) → length ls ≡ length ms → length (lesser_each ls ms) ≡ length ls
-length-lesser [] ms e = refl
-length-lesser (l ∷ ls) [] e = absurd (omega arith)
-length-lesser (l ∷ ls) (m ∷ ms) e = ap suc (length-lesser ls ms (omega arith))
 
 lesser_below : (ls ms : List Level) (r : ℕ) → AtMost (get_or (lesser_each ls ms) r Empty) (get_or ls r Empty) × AtMost (get_or (lesser_each ls ms) r Empty) (get_or ms r Empty)
 lesser_below [] ms r = (tt, tt)

@@ -8,7 +8,7 @@ use Rattle.level_table.specs.declared.level.Level.{Level}
 use Rattle.level_table.specs.declared.level.Level.TheVariants.{Empty, At}
 use Rattle.level_table.specs.declared.reason.Note.{Note}
 use Rattle.level_table.specs.Levels.{Table, level_at}
-use Rattle.level_table.specs.Tables.{word_at}
+use Rattle.level_table.specs.Tables.{kept_word}
 use Rattle.game_model.specs.Game.{DynamicGame}
 use Rattle.direction_set.specs.DirectionTable.{DirectionTable}
 use Rattle.schedule_core.specs.Frame.{Frame, IsFrame, IsOpened, rows_of}
@@ -83,7 +83,7 @@ opens_as k f notes ws same frame ok words =
     (opens k notes (subst IsFrame (sym same) frame) (subst (λ (g : Frame). IsOpened g notes) (sym same) ok))
 
 pub words_count : (f : Frame) → IsFrame f → (ws : List ℕ) → ws ≡ words_of f.start.levels 0 → length ws ≡ rows_of f + 1
-words_count f ok ws is = ap length is ∙ (length_push (map word_at f.start.levels) 0 ∙ ap (λ (n : ℕ). n + 1) (length-map word_at f.start.levels ∙ ok.whole.one_each))
+words_count f ok ws is = ap length is ∙ (length_push (map kept_word f.start.levels) 0 ∙ ap (λ (n : ℕ). n + 1) (length-map kept_word f.start.levels ∙ ok.whole.one_each))
 
 pub owner_opened_as : (k : Key) (v : View) (f : Frame) (notes : List Note) → frame_of_key k ≡ f → v ≡ first_view k → IsFrame f → IsOpened f notes → IsOwner v notes
 owner_opened_as k v f notes same is frame ok =

@@ -7,8 +7,9 @@ use Rattle.level_table.specs.declared.level.Level.{Level}
 use Rattle.level_table.specs.declared.level.Level.TheVariants.{Empty, At}
 use Rattle.level_table.specs.declared.reason.Note.{Note}
 use Rattle.level_table.specs.Levels.{levels_in, lesser}
-use Rattle.level_table.specs.Tables.{word_at}
+use Rattle.level_table.specs.Tables.{kept_word}
 use Rattle.bound_laws.proofs.Notes.{noted}
+use Rattle.bound_laws.proofs.Levels.{lesser_number}
 use Rattle.schedule_core.specs.Frame.{Frame, IsNoteOver, IsSeen, IsSound, NamedRow, rows_of}
 use Rattle.schedule_core.proofs.Events.{named_above, named_more}
 use Rattle.schedule_core.proofs.Levels.{IsLowering, empty_sound, lowered_sound, seen_is_kept}
@@ -23,7 +24,7 @@ pass_seeing v r l ok within sound = record { frame = ok.frame; unspent = ok.unsp
 pub pass_looked : (v : View) (r n : ℕ) (w : View) → Looked v r n w → IsPass v → r < rows_of (frame_of v) → IsPass w × (w.owner ≡ v.owner)
 pass_looked v r n w h ok within = (subst IsPass (sym h.seen) (pass_seeing v r h.found.level ok within h.found.sound), ap (λ (x : View). x.owner) h.seen)
 
-pub pass_lowered : (f : Frame) (v : View) (r k n : ℕ) (x : ℤ) (w : View) → Lowered v r k n w → frame_of v ≡ f → k ≡ word_at (At x) → IsLowering f r (At x) → IsPass v → r < rows_of f
+pub pass_lowered : (f : Frame) (v : View) (r k n : ℕ) (x : ℤ) (w : View) → Lowered v r k n w → frame_of v ≡ f → k ≡ kept_word (At x) → IsLowering f r (At x) → IsPass v → r < rows_of f
     → IsPass w × (w.owner ≡ v.owner)
 pass_lowered f v r k n x w h same is lowering ok within =
     let seen = h.seen (At x) lowering.small is in
@@ -55,12 +56,7 @@ owner_seeing v r l notes ok within sound marked = record {
 pub owner_looked : (v : View) (r n : ℕ) (w : View) (notes : List Note) → Looked v r n w → IsOwner v notes → r < rows_of (frame_of v) → IsOwner w notes
 owner_looked v r n w notes h ok within = subst (λ (x : View). IsOwner x notes) (sym h.seen) (owner_seeing v r h.found.level notes ok within h.found.sound (h.found.marked ok.owner))
 
--- the lesser of a level and a number is Empty only where the level is
-lesser_number : (l : Level) (x : ℤ) → lesser l (At x) ≡ Empty → l ≡ Empty
-lesser_number Empty x e = e
-lesser_number (At y) x e = absurd (cc)
-
-pub owner_lowered : (f : Frame) (v : View) (r k n : ℕ) (x : ℤ) (w : View) (notes : List Note) → Lowered v r k n w → frame_of v ≡ f → k ≡ word_at (At x) → IsLowering f r (At x) → IsOwner v notes → r < rows_of f → IsOwner w notes
+pub owner_lowered : (f : Frame) (v : View) (r k n : ℕ) (x : ℤ) (w : View) (notes : List Note) → Lowered v r k n w → frame_of v ≡ f → k ≡ kept_word (At x) → IsLowering f r (At x) → IsOwner v notes → r < rows_of f → IsOwner w notes
 owner_lowered f v r k n x w notes h same is lowering ok within =
     let low = subst (λ (g : Frame). IsLowering g r (At x)) (sym same) lowering in
     subst (λ (y : View). IsOwner y notes) (sym (h.seen (At x) lowering.small is)) (owner_seeing v r (lesser h.found.level (At x)) notes ok (subst (λ (g : Frame). r < rows_of g) (sym same) within)

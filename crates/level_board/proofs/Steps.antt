@@ -1,20 +1,22 @@
 -- Each step keeps the rule of the words.
-use Rattle.std.proofs.Common.{◌≡◌, ◌≢◌, ℕ, ◌+◌, ◌%◌, ◌^◌, ◌<◌, min, List, [], ◌∷◌, ◌++◌, map, length, get_or, set, refl, sym, ap, ◌∙◌, subst, true, false, true≢false, ⊎_elim, arith}
+use Rattle.std.proofs.Common.{◌≡◌, ◌≢◌, ℕ, ◌+◌, ◌%◌, ◌^◌, ◌<◌, min, List, [], ◌∷◌, ◌++◌, map, length, get_or, set, refl, sym, ap, ◌∙◌, subst, true, false, ⊎_elim, arith}
 use Rattle.std.specs.Prelude.{ℤ}
 use Rattle.std.proofs.lemmas.List.{set-get_or, set_at}
+use Rattle.std.proofs.lemmas.Bool.{false≢true}
 use mathlib.Core.Option.{none, some}
 use lib.ListN.{get_elem?}
 use Rattle.atomic_table.specs.Table.{State, Me, step, keeps, Allows, Splits, Joins}
 use Rattle.atomic_table.proofs.Lists.{set_again}
 use Rattle.level_table.specs.declared.level.Level.{Level}
 use Rattle.level_table.specs.declared.level.Level.TheVariants.{Empty, At}
-use Rattle.level_table.specs.Levels.{AtMost, level_at, lesser}
-use Rattle.level_table.specs.Tables.{word_at}
+use Rattle.level_table.specs.Levels.{level_at, lesser}
+use Rattle.level_table.specs.Tables.{kept_word}
 use Rattle.schedule_core.specs.Frame.{Frame, IsAbove, IsSound, rows_of}
 use Rattle.schedule_core.specs.Core.{AreValid}
 use Rattle.schedule_core.proofs.Levels.{IsLowering}
 use Rattle.schedule_core.proofs.Lists.{at_map, at_set, at_snoc, each_after, each_found, each_of_both}
-use Rattle.schedule_core.proofs.Words.{clear_keeps, join_keeps, lesser_number, load_keeps, lower_keeps, split_keeps, valid_readers, valid_with}
+use Rattle.schedule_core.proofs.Words.{clear_keeps, join_keeps, load_keeps, lower_keeps, split_keeps, valid_readers, valid_with}
+use Rattle.bound_laws.proofs.Levels.{at_most_empty, lesser_number}
 use Rattle.level_board.specs.declared.view.View.{View}
 use Rattle.level_board.specs.Board.{words_of}
 use Rattle.level_board.specs.Rule.{frame_of, reader_of, seeing, clearing, drawing, copied, joined, spent_view, AreMarked, Keeps, Moment, Found, Looks, Lowers, Clears, Draws, Learns}
@@ -22,7 +24,7 @@ use Rattle.level_board.proofs.Words.{word_of_row, words_set, lesser_words, same_
 
 -- what a step finds in a row
 found_of : (f : Frame) (s : State (Unit {0}) View) (id : ℕ) (v : View) (r : ℕ) (kept : Keeps f s) → get_elem? s.views id ≡ some v → v.spent ≡ false → frame_of v ≡ f → r < rows_of f
-    → (get_or s.words r 0 ≡ word_at (get_or kept.levels r Empty)) → Found v r (get_or s.words r 0)
+    → (get_or s.words r 0 ≡ kept_word (get_or kept.levels r Empty)) → Found v r (get_or s.words r 0)
 found_of f s id v r kept at unspent same within word =
     let l = get_or kept.levels r Empty in
     let mine = kept.valid.fits id v at unspent in record {
@@ -41,7 +43,7 @@ found_of f s id v r kept at unspent same within word =
       marked = λ owner e. kept.marked id v at owner r within e;
     }
 
-word_found : (f : Frame) (s : State (Unit {0}) View) (r : ℕ) (kept : Keeps f s) → r < rows_of f → get_or s.words r 0 ≡ word_at (get_or kept.levels r Empty)
+word_found : (f : Frame) (s : State (Unit {0}) View) (r : ℕ) (kept : Keeps f s) → r < rows_of f → get_or s.words r 0 ≡ kept_word (get_or kept.levels r Empty)
 word_found f s r kept within = ap (λ ws. get_or ws r 0) kept.words ∙ word_of_row kept.levels kept.claim r (omega (arith, kept.valid.one_each))
 
 -- the marks, where one view is another
@@ -74,7 +76,7 @@ loads f slots id me r unspent same within s kept all_home at fits =
     )
 
 pub lowers : (f : Frame) (slots id : ℕ) (me : Me (Unit {0}) View) (r k : ℕ) (x : ℤ) → me.0.spent ≡ false → frame_of me.0 ≡ f → r < rows_of f
-    → k ≡ word_at (At x) → IsLowering f r (At x) → Allows (Keeps f) slots id me r (λ n. min n k) (Lowers (step slots r k 0 none) me)
+    → k ≡ kept_word (At x) → IsLowering f r (At x) → Allows (Keeps f) slots id me r (λ n. min n k) (Lowers (step slots r k 0 none) me)
 unfolding found_of
 lowers f slots id me r k x unspent same within is lowering s kept all_home at fits =
     let v = me.0 in
@@ -86,9 +88,9 @@ lowers f slots id me r k x unspent same within is lowering s kept all_home at fi
     let sound = kept.valid.sound r within in
     let word = word_found f s r kept within in
     let found = found_of f s id v r kept at unspent same within word in
-    let made : min (get_or s.words r 0) k ≡ word_at new = ap (λ (n : ℕ). min n k) word ∙ (ap (λ (n : ℕ). min (word_at old) n) is ∙ lesser_words old (At x) sound.small lowering.small) in
+    let made : min (get_or s.words r 0) k ≡ kept_word new = ap (λ (n : ℕ). min n k) word ∙ (ap (λ (n : ℕ). min (kept_word old) n) is ∙ lesser_words old (At x) sound.small lowering.small) in
     let words : set s.words r (min (get_or s.words r 0) k) ≡ words_of (set levels r new) claim =
-    ap (λ (n : ℕ). set s.words r n) made ∙ (ap (λ ws. set ws r (word_at new)) kept.words ∙ words_set levels claim r new here) in
+    ap (λ (n : ℕ). set s.words r n) made ∙ (ap (λ ws. set ws r (kept_word new)) kept.words ∙ words_set levels claim r new here) in
     let marks = λ (j : ℕ) (u : View) (there : get_elem? s.views j ≡ some u) (owner : u.owner ≡ true). each_after (λ i m. m ≡ Empty → get_or u.cleared i false ≡ true) Empty levels (rows_of f) r new here
     (λ e. kept.marked j u there owner r within (lesser_number old x e)) (kept.marked j u there owner) in (
       seeing v r new,
@@ -138,22 +140,19 @@ draws f slots id me n k unspent is s kept all_home at fits =
     let levels = kept.levels in
     let claim = get_or s.words n 0 in
     let next = (claim + k) % 2 ^ 64 in
-    let end : length (map word_at levels) ≡ n = length-map word_at levels ∙ (kept.valid.one_each ∙ sym is) in (
+    let end : length (map kept_word levels) ≡ n = length-map kept_word levels ∙ (kept.valid.one_each ∙ sym is) in (
       drawing v claim,
       keeps,
       tt,
       record {
         levels = levels;
         claim = next;
-        words = ap (λ ws. set ws n next) kept.words ∙ set_at (map word_at levels) kept.claim [] next n end;
+        words = ap (λ ws. set ws n next) kept.words ∙ set_at (map kept_word levels) kept.claim [] next n end;
         valid = valid_with reader_of f levels levels s.views id v (drawing v claim) kept.valid at kept.valid.one_each kept.valid.sound (λ h. h) (λ h. (h, unspent)) (λ _. kept.valid.fits id v at unspent) (λ j u ne there h. h);
         marked = marks_with f levels levels s.views id (drawing v claim) (kept.marked id v at) (λ j u _ there. kept.marked j u there);
       },
       (refl, refl),
     )
-
-false≢true : false ≡ true → ⊥
-false≢true e = true≢false (sym e)
 
 pub splits : (f : Frame) (id : ℕ) (v : View) → v.spent ≡ false → Splits (Keeps f) id v v (copied v)
 splits f id v unspent s kept at =
@@ -180,11 +179,6 @@ joins f id v other w unspent unspent' no_owner s kept at apart there =
       marked = marks_with f kept.levels kept.levels (set s.views id (joined v w)) other spent_view (λ e. absurd (false≢true e))
           (λ j u _ h. marks_with f kept.levels kept.levels s.views id (joined v w) (kept.marked id v at) (λ i t _ is. kept.marked i t is) j u h);
     }
-
-at_most_empty : (l m : Level) → AtMost l m → m ≡ Empty → l ≡ Empty
-at_most_empty Empty m h e = refl
-at_most_empty (At x) Empty h e = absurd h
-at_most_empty (At x) (At y) h e = absurd (cc)
 
 pub learns : (f : Frame) (slots id : ℕ) (me : Me (Unit {0}) View) (r : ℕ) → me.0.spent ≡ false → frame_of me.0 ≡ f → Allows (Keeps f) slots id me r (λ n. n) (Learns (step slots r 0 0 none) me)
 learns f slots id me r unspent same s kept all_home at fits =

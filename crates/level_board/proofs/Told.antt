@@ -5,10 +5,10 @@ use Rattle.std.proofs.lemmas.List.{length-set, get_or-set_same}
 use Rattle.level_table.specs.declared.level.Level.{Level}
 use Rattle.level_table.specs.declared.level.Level.TheVariants.{Empty, At}
 use Rattle.level_table.specs.Levels.{Table, AtMost, IsSmall, level_at, lesser}
-use Rattle.level_table.specs.Tables.{word_at}
-use Rattle.bound_laws.proofs.Levels.{level_at_most_trans, lesser_at_most}
+use Rattle.level_table.specs.Tables.{kept_word}
+use Rattle.bound_laws.proofs.Levels.{level_at_most_trans, lesser_at_most, lesser_at_most_second}
 use Rattle.schedule_core.specs.Frame.{Frame, BoundsRow, IsAbove, IsFallen, IsFrame, rows_of, with_level}
-use Rattle.schedule_core.proofs.Levels.{bounds_row, lesser_at_most_second}
+use Rattle.schedule_core.proofs.Levels.{bounds_row}
 use Rattle.level_board.specs.declared.view.View.{View}
 use Rattle.level_board.specs.Rule.{Cleared, Found, Looked, Lowered, frame_of}
 use Rattle.level_board.proofs.Moments.{fallen_with}
@@ -25,7 +25,7 @@ found_fell v r n t l found seen is = subst (λ (m : Level). AtMost m (level_at t
 pub looked_seen : (v : View) (r n : ℕ) (w : View) (t : Table) (l : Level) (told : Looked v r n w) → v.seen ≡ t → l ≡ told.found.level → w.seen ≡ with_level t r l
 looked_seen v r n w t l told seen is = ap (λ (x : View). x.seen) told.seen ∙ (λ i. with_level (seen i) r (sym is i))
 
-pub lowered_seen : (v : View) (r k n : ℕ) (w : View) (t : Table) (l : Level) (x : ℤ) (told : Lowered v r k n w) → v.seen ≡ t → l ≡ told.found.level → IsSmall (At x) → k ≡ word_at (At x) → w.seen ≡ with_level t r (lesser l (At x))
+pub lowered_seen : (v : View) (r k n : ℕ) (w : View) (t : Table) (l : Level) (x : ℤ) (told : Lowered v r k n w) → v.seen ≡ t → l ≡ told.found.level → IsSmall (At x) → k ≡ kept_word (At x) → w.seen ≡ with_level t r (lesser l (At x))
 lowered_seen v r k n w t l x told seen is small word = ap (λ (y : View). y.seen) (told.seen (At x) small word) ∙ (λ i. with_level (seen i) r (lesser (sym is i) (At x)))
 
 pub cleared_seen : (v : View) (r n : ℕ) (w : View) (t : Table) (told : Cleared v r n w) → v.seen ≡ t → w.seen ≡ with_level t r Empty

@@ -5,21 +5,21 @@ use Rattle.std.proofs.lemmas.List.{map-set, set-append_left, get_or_append_left}
 use Rattle.level_table.specs.declared.level.Level.{Level}
 use Rattle.level_table.specs.declared.level.Level.TheVariants.{Empty, At}
 use Rattle.level_table.specs.Levels.{IsSmall, lesser}
-use Rattle.level_table.specs.Tables.{word_at}
+use Rattle.level_table.specs.Tables.{kept_word}
 use Rattle.level_board.specs.Board.{words_of}
 
-pub same_words : (a b : Level) → IsSmall a → IsSmall b → word_at a ≡ word_at b → a ≡ b
+pub same_words : (a b : Level) → IsSmall a → IsSmall b → kept_word a ≡ kept_word b → a ≡ b
 same_words Empty Empty h k e = refl
 same_words Empty (At y) h k e = absurd (omega (arith, ints))
 same_words (At x) Empty h k e = absurd (omega (arith, ints))
 same_words (At x) (At y) h k e = let same : x ≡ y = omega (arith, ints) in ap At same
 
-pub lesser_words : (a b : Level) → IsSmall a → IsSmall b → min (word_at a) (word_at b) ≡ word_at (lesser a b)
+pub lesser_words : (a b : Level) → IsSmall a → IsSmall b → min (kept_word a) (kept_word b) ≡ kept_word (lesser a b)
 lesser_words Empty b h k = omega arith
 lesser_words (At x) Empty h k = omega arith
 lesser_words (At x) (At y) h k = omega (arith, ints, clamps)
 
-pub word_fits : (a : Level) → IsSmall a → word_at a < 2 ^ 64
+pub word_fits : (a : Level) → IsSmall a → kept_word a < 2 ^ 64
 word_fits Empty h = omega arith
 word_fits (At x) h = omega (arith, ints)
 
@@ -33,11 +33,11 @@ length-map f [] = refl
 length-map f (x ∷ xs) = ap suc (length-map f xs)
 
 -- the word of a row
-pub word_of_row : (levels : List Level) (claim r : ℕ) → r < length levels → get_or (words_of levels claim) r 0 ≡ word_at (get_or levels r Empty)
+pub word_of_row : (levels : List Level) (claim r : ℕ) → r < length levels → get_or (words_of levels claim) r 0 ≡ kept_word (get_or levels r Empty)
 word_of_row levels claim r h =
-    get_or_append_left (map word_at levels) (claim ∷ []) 0 r (omega (arith, length-map word_at levels)) ∙ get_or-map word_at levels r Empty 0 h
+    get_or_append_left (map kept_word levels) (claim ∷ []) 0 r (omega (arith, length-map kept_word levels)) ∙ get_or-map kept_word levels r Empty 0 h
 
 -- a row's word after a write
-pub words_set : (levels : List Level) (claim r : ℕ) (l : Level) → r < length levels → set (words_of levels claim) r (word_at l) ≡ words_of (set levels r l) claim
+pub words_set : (levels : List Level) (claim r : ℕ) (l : Level) → r < length levels → set (words_of levels claim) r (kept_word l) ≡ words_of (set levels r l) claim
 words_set levels claim r l h =
-    set-append_left (map word_at levels) (claim ∷ []) r (word_at l) (omega (arith, length-map word_at levels)) ∙ ap (λ ws. ws ++ claim ∷ []) (sym (map-set word_at levels r l))
+    set-append_left (map kept_word levels) (claim ∷ []) r (kept_word l) (omega (arith, length-map kept_word levels)) ∙ ap (λ ws. ws ++ claim ∷ []) (sym (map-set kept_word levels r l))

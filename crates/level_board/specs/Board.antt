@@ -3,7 +3,7 @@ use Rattle.std.specs.Prelude.{◌≡◌, ℕ, List, [], ◌∷◌, ◌++◌, map
 use Rattle.level_table.specs.declared.level.Level.{Level}
 use Rattle.level_table.specs.declared.reason.Note.{Note}
 use Rattle.level_table.specs.Levels.{Table}
-use Rattle.level_table.specs.Tables.{word_at}
+use Rattle.level_table.specs.Tables.{kept_word}
 use Rattle.atomic_table.specs.Seated.{TableId}
 use Rattle.schedule_core.specs.declared.event.Event.{Event}
 use Rattle.schedule_core.specs.declared.event.Event.TheVariants as events
@@ -30,7 +30,7 @@ pub record OwnerView : Type 0 where
 
 -- the words that keep these levels, with the claim word behind them
 abbrev pub words_of : List Level → ℕ → List ℕ
-words_of levels claim = map word_at levels ++ claim ∷ []
+words_of levels claim = map kept_word levels ++ claim ∷ []
 
 -- There was a core state with valid words and workers in which some worker had seen the table `old`, and the word of row r was the level. The event of the worker could happen, and then the worker has seen the table `new`.
 pub record IsEvent (f : Frame) (event : ℕ → Event) (r : ℕ) (old : Table) (level : Level) (new : Table) : Type 0 where

@@ -10,7 +10,7 @@ use Rattle.level_table.specs.declared.level.Level.TheVariants.{Empty, At}
 use Rattle.level_table.specs.declared.reason.Note.{Note}
 use Rattle.level_table.specs.Levels.{Table, AtMost, IsSmall, level_at, lesser}
 use Rattle.level_table.specs.Problem.{problem_of}
-use Rattle.level_table.specs.Tables.{word_at}
+use Rattle.level_table.specs.Tables.{kept_word}
 use Rattle.schedule_core.specs.Frame.{Frame, AreKept, IsFrame, IsSeen, IsSound, NamedRow, lesser_table, rows_of, with_level}
 use Rattle.schedule_core.specs.Core.{AreValid, Reader}
 use Rattle.level_board.specs.declared.view.Key.{Key}
@@ -59,7 +59,7 @@ pub record Moment (f : Frame) (v : Reader) (r : ℕ) (level : Level) : Type 0 wh
 -- A step on row r found the word n, which is that of the level.
 pub record Found (v : View) (r n : ℕ) : Type 0 where
   pub level : Level
-  pub word : n ≡ word_at level
+  pub word : n ≡ kept_word level
   pub moment : Moment (frame_of v) (reader_of v) r level
   pub sound : IsSound (frame_of v) r level
   pub fell : AtMost level (level_at v.seen r)
@@ -84,7 +84,7 @@ pub record Looked (v : View) (r n : ℕ) (w : View) : Type 0 where
 -- A fetch-min of row r by the word k found the word n.
 pub record Lowered (v : View) (r k n : ℕ) (w : View) : Type 0 where
   pub found : Found v r n
-  pub seen : (l : Level) → IsSmall l → k ≡ word_at l → w ≡ seeing v r (lesser found.level l)
+  pub seen : (l : Level) → IsSmall l → k ≡ kept_word l → w ≡ seeing v r (lesser found.level l)
 
 -- The owner's fetch-min of row r to Empty found the word n.
 pub record Cleared (v : View) (r n : ℕ) (w : View) : Type 0 where

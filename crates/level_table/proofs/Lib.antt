@@ -1,4 +1,5 @@
 pub mod NoteLemmas
+pub mod Numbers
 pub mod OpeningLemmas
 pub mod Sizes
 pub mod TableLemmas

@@ -8,12 +8,12 @@ use Rattle.std.proofs.lemmas.Bool.{cases_lt}
 use Rattle.std.proofs.lemmas.Nat.{mod-mul-add}
 use Rattle.game_model.specs.Game.{states}
 use Rattle.game_model.specs.SelfGeneration.{sum_below}
+use Rattle.exact_algebra.proofs.Order.{within_abs}
 use Rattle.level_table.specs.declared.level.Level.{Level}
 use Rattle.level_table.specs.declared.level.Level.TheVariants.{Empty, At}
 use Rattle.level_table.specs.Problem.{Problem, direction_count, largest, opening_level}
 use Rattle.level_table.specs.Levels.{Table, IsSmall, level_at}
 use Rattle.level_table.specs.Tables.{IsWhole, IsOpening}
-use Rattle.level_table.proofs.Sizes.{between_abs}
 
 pub largest_more : (f : ℕ → ℤ) (n : ℕ) (x y r : ℤ) → 1 ≤ n → x ≡ largest f (n - 1) → y ≡ f n → r ≡ int_max x y → r ≡ largest f (n + 1 - 1)
 largest_more f zero x y r some ex ey er = absurd (omega arith)
@@ -55,7 +55,7 @@ IsOpening-uniform p t each n d whole tn td en ed rows openings small = record {
         let some : 0 < d = omega (arith, whole.some_direction) in
         let below : row % d < direction_count p = omega (arith, mod-lt row some) in
         let e : level_at t row ≡ At (opening_level p (row % d)) = rows row h ∙ ap At (openings (row % d) below) in
-        subst (λ (l : Level). IsSmall l) (sym e) (between_abs (opening_level p (row % d)) (2 ^ 50) (small (row % d) below))
+        subst (λ (l : Level). IsSmall l) (sym e) (within_abs (opening_level p (row % d)) (2 ^ 50) (small (row % d) below))
 
     outside : (row : ℕ) → n * d ≤ row → IsSmall (level_at t row)
     outside row h =

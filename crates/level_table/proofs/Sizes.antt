@@ -1,39 +1,13 @@
--- bounds of payoffs, bases and products
-use Rattle.std.proofs.Common.{◌≡◌, ℕ, zero, suc, ◌+◌, ◌*◌, ◌^◌, ◌<◌, ◌≤◌, List, [], ◌∷◌, length, get_or, refl, ap, ◌∙◌, arith, ℤ, pos, negsuc, ◌+ℤ◌, ◌*ℤ◌, ◌≤ℤ◌, neg_ℤ, to_z, of_z, FitsSigned}
+-- bounds of payoffs and bases
+use Rattle.std.proofs.Common.{◌≡◌, ℕ, zero, suc, ◌+◌, ◌*◌, ◌^◌, ◌<◌, ◌≤◌, List, [], ◌∷◌, length, get_or, refl, ap, ◌∙◌, arith, ℤ, pos, ◌≤ℤ◌, neg_ℤ}
 use Rattle.std.specs.Int.RustNames.{unsigned_abs}
-use Rattle.std.proofs.lemmas.Int.{ints, fits_signed_mul, to_z-of_z, unsigned_abs-mul}
 use Rattle.std.proofs.Math.Nat.{mul-le-mul, pow-succ'}
 use Rattle.std.proofs.Math.Pow.{pow_mono}
-use mir.Syntax.{Width}
-use mir.Val.{hbits}
+use Rattle.exact_algebra.proofs.Order.{abs_within, within_abs}
 use Rattle.game_model.specs.Game.{DynamicGame, states, counts, profile_count, payoff_at, Divides, IsGame, IsState}
 
-pub abs_between : (z : ℤ) (n : ℕ) → neg_ℤ (pos n) ≤ℤ z → z ≤ℤ pos n → unsigned_abs z ≤ n
-abs_between (pos m) n low high = omega (arith, ints)
-abs_between (negsuc m) n low high = omega (arith, ints)
-
 pub between_abs : (z : ℤ) (n : ℕ) → unsigned_abs z ≤ n → (neg_ℤ (pos n) ≤ℤ z) × (z ≤ℤ pos n)
-between_abs (pos m) n h = (omega (arith, ints), omega (arith, ints))
-between_abs (negsuc m) n h = (omega (arith, ints), omega (arith, ints))
-
-pub abs_sum : (x y : ℤ) (m n : ℕ) → unsigned_abs x ≤ m → unsigned_abs y ≤ n → unsigned_abs (x +ℤ y) ≤ m + n
-abs_sum x y m n p q =
-    let a : (neg_ℤ (pos m) ≤ℤ x) × (x ≤ℤ pos m) = between_abs x m p in
-    let b : (neg_ℤ (pos n) ≤ℤ y) × (y ≤ℤ pos n) = between_abs y n q in
-    abs_between (x +ℤ y) (m + n) (omega (arith, ints, a.0, b.0)) (omega (arith, ints, a.1, b.1))
-
-pub abs_product : (x y : ℤ) (m n : ℕ) → unsigned_abs x ≤ m → unsigned_abs y ≤ n → unsigned_abs (x *ℤ y) ≤ m * n
-abs_product x y m n p q = rw (unsigned_abs-mul x y) (mul-le-mul p q)
-
--- a product of small numbers fits, and the code's product is it
-pub product_fits : (w : Width) (x y : ℤ) (m n : ℕ) → FitsSigned w x → FitsSigned w y → unsigned_abs x ≤ m → unsigned_abs y ≤ n → m * n < 2 ^ hbits w →
-    FitsSigned w (to_z w (of_z w x) *ℤ to_z w (of_z w y))
-product_fits w x y m n f g p q h = rw (to_z-of_z w x f, to_z-of_z w y g) (fits_signed_mul w x y m n p q h)
-
-pub product_is : (w : Width) (x y : ℤ) (m n : ℕ) → FitsSigned w x → FitsSigned w y → unsigned_abs x ≤ m → unsigned_abs y ≤ n → m * n < 2 ^ hbits w →
-    to_z w (of_z w (to_z w (of_z w x) *ℤ to_z w (of_z w y))) ≡ x *ℤ y
-product_is w x y m n f g p q h =
-    rw (to_z-of_z w x f, to_z-of_z w y g) (to_z-of_z w (x *ℤ y) (fits_signed_mul w x y m n p q h))
+between_abs = within_abs
 
 product : List ℕ → ℕ
 product [] = 1
@@ -87,8 +61,8 @@ base_small g game =
     first_at_most b (suc k) n e h = omega arith
 
 -- the base times 2^grid
-pub fineness_small : (g : DynamicGame) (grid : ℕ) → IsGame g → grid ≤ 30 → g.base * 2 ^ grid ≤ 2 ^ 60
-fineness_small g grid game h = mul-le-mul (base_small g game) (powers grid h)
+pub base_times_fineness_small : (g : DynamicGame) (grid : ℕ) → IsGame g → grid ≤ 30 → g.base * 2 ^ grid ≤ 2 ^ 60
+base_times_fineness_small g grid game h = mul-le-mul (base_small g game) (powers grid h)
   where
     powers : (n : ℕ) → n ≤ 30 → 2 ^ n ≤ 2 ^ 30
     powers n small = pow_mono small
@@ -112,4 +86,4 @@ payoff_small g s a i game known profile player =
     let row : (a + 1) * g.players ≤ profile_count (counts g s) * g.players = mul-le-mul (omega arith) (omega arith) in
     let inside : a * g.players + i < profile_count (counts g s) * g.players = omega arith in
     let small = state.payoffs_small (a * g.players + i) (omega (arith, state.payoffs_fit)) in
-    abs_between (payoff_at g s a i) (2 ^ 26) small.0 small.1
+    abs_within (payoff_at g s a i) (2 ^ 26) small.0 small.1

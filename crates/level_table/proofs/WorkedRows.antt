@@ -1,7 +1,6 @@
 -- the worked examples, rule by rule, and the one row level of a row
-use Rattle.std.proofs.Common.{◌≡◌, ℕ, zero, suc, ◌*◌, ◌<◌, [], ◌∷◌, refl, ap, arith, length, get_or, List, lit<, lit≤, ◌≤◌, ◌^◌, neg_ℤ, ℤ, pos, negsuc, ◌-ℤ◌, ◌*ℤ◌, ◌≤ℤ◌, ◌<ℤ◌}
+use Rattle.std.proofs.Common.{◌≡◌, ℕ, zero, suc, ◌*◌, ◌<◌, [], ◌∷◌, refl, ap, arith, lit<, lit≤, ◌≤◌, ◌^◌, ℤ, pos, negsuc, ◌-ℤ◌, ◌*ℤ◌, ◌≤ℤ◌, ◌<ℤ◌}
 use Rattle.std.specs.Int.RustNames.{unsigned_abs}
-use Rattle.std.specs.Prelude.{slice_index}
 use Rattle.std.proofs.lemmas.Int.{ints, by_lt_z}
 use Rattle.std.proofs.Math.Nat.{mul-le-mul_left}
 use borrow.Author.Differences.{product_is, at_most_in, le_out}
@@ -12,10 +11,9 @@ use Rattle.level_table.specs.declared.level.Level.TheVariants.{Empty, At}
 use Rattle.level_table.specs.Problem.{Problem, direction, opening_level}
 use Rattle.level_table.specs.Levels.{Levels, opening_table}
 use Rattle.level_table.specs.Operator.{Fractions, Admissible, HasValueAbove, IsRowLevel, value, value_unit}
-use Rattle.game_model.specs.Parts.{KeepLimits}
-use Rattle.game_model.specs.Worked.{prisoners}
 use Rattle.level_table.specs.Tables.{IsFirstBeyond}
 use Rattle.level_table.specs.Worked.{large_problem, one_profile, one_problem, whole}
+use Rattle.level_table.proofs.Numbers.{number_at}
 
 -- ---- the game with one profile
 no_deviation : (i b : ℕ) → IsDeviation one_profile 0 0 i b → ⊥
@@ -24,9 +22,6 @@ no_deviation zero (suc b) d = absurd (omega (arith, d.strategy))
 no_deviation (suc zero) zero d = d.other refl
 no_deviation (suc zero) (suc b) d = absurd (omega (arith, d.strategy))
 no_deviation (suc (suc i)) b d = absurd (omega (arith, d.player))
-
-number_at : (x y : ℤ) → At x ≡ At y → x ≡ y
-number_at x y e = cc
 
 half_plane : (k : ℕ) (x : ℤ) → k < 4 → At (opening_level one_problem k) ≡ At x → dot 2 (direction one_problem k) (pos 1 ∷ pos 2 ∷ []) ≤ℤ (x *ℤ pos 1)
 half_plane zero x h e = let n : pos 1 ≡ x = number_at (pos 1) x e in rw (← n) (omega (arith, ints))
@@ -60,59 +55,6 @@ within_limit (suc (suc (suc (suc k)))) h = absurd (omega arith)
 
 pub none_beyond : (number : ℤ) → IsFirstBeyond (large_problem 1048576) number → ⊥
 none_beyond number f = absurd (omega (arith, f.beyond, within_limit f.direction f.known))
-
--- ---- the prisoner's dilemma keeps the limits
-dilemma_payoffs : List ℤ
-dilemma_payoffs = pos 2 ∷ pos 2 ∷ pos 3 ∷ pos 0 ∷ pos 0 ∷ pos 3 ∷ pos 1 ∷ pos 1 ∷ []
-
-in_range : (x : ℕ) → x ≤ 3 → (neg_ℤ (pos (2 ^ 26)) ≤ℤ pos x) × (pos x ≤ℤ pos (2 ^ 26))
-in_range x h = (omega (arith, ints), omega (arith, ints))
-
-payoffs_within : (k : ℕ) → k < 8 → (neg_ℤ (pos (2 ^ 26)) ≤ℤ get_or dilemma_payoffs k (pos 0)) × (get_or dilemma_payoffs k (pos 0) ≤ℤ pos (2 ^ 26))
-unfolding dilemma_payoffs
-payoffs_within zero h = in_range 2 (lit≤ tt)
-payoffs_within (suc zero) h = in_range 2 (lit≤ tt)
-payoffs_within (suc (suc zero)) h = in_range 3 (lit≤ tt)
-payoffs_within (suc (suc (suc zero))) h = in_range 0 (lit≤ tt)
-payoffs_within (suc (suc (suc (suc zero)))) h = in_range 0 (lit≤ tt)
-payoffs_within (suc (suc (suc (suc (suc zero))))) h = in_range 3 (lit≤ tt)
-payoffs_within (suc (suc (suc (suc (suc (suc zero)))))) h = in_range 1 (lit≤ tt)
-payoffs_within (suc (suc (suc (suc (suc (suc (suc zero))))))) h = in_range 1 (lit≤ tt)
-payoffs_within (suc (suc (suc (suc (suc (suc (suc (suc k)))))))) h = absurd (omega arith)
-
-two_at : (x : ℕ) (P : ℕ → Type 0) → P x → (i : ℕ) → i < 2 → P (get_or (x ∷ x ∷ []) i 0)
-two_at x P a zero h = a
-two_at x P a (suc zero) h = a
-two_at x P a (suc (suc i)) h = absurd (omega arith)
-
-divides_one : (d k : ℕ) → 1 ≡ d * k → d ≤ 1
-divides_one d zero e = absurd (omega arith)
-divides_one d (suc k) e = omega arith
-
-one_state : (P : ℕ → Type 0) → P 0 → (s : ℕ) → s < 1 → P s
-one_state P a zero h = a
-one_state P a (suc s) h = absurd (omega arith)
-
-pub dilemma_keeps_limits : KeepLimits (prisoners 1 2)
-unfolding dilemma_payoffs
-dilemma_keeps_limits = record {
-  two_players = lit≤ tt;
-  three_players = lit≤ tt;
-  some_state = lit≤ tt;
-  few_states = lit≤ tt;
-  payoffs_listed = refl;
-  next_listed = refl;
-  some_strategy = λ s i hs hi. one_state (λ s. (i : ℕ) → i < length (counts (prisoners 1 2) s) → 1 ≤ slice_index (counts (prisoners 1 2) s) i) (two_at 2 (λ m. 1 ≤ m) (lit≤ tt)) s hs i hi;
-  few_strategies = λ s i hs hi. one_state (λ s. (i : ℕ) → i < length (counts (prisoners 1 2) s) → slice_index (counts (prisoners 1 2) s) i ≤ 16) (two_at 2 (λ m. m ≤ 16) (lit≤ tt)) s hs i hi;
-  payoffs_small = λ s k hs hk. one_state (λ s. (k : ℕ) → k < length (get_or (prisoners 1 2).payoffs s []) → (neg_ℤ (pos (2 ^ 26)) ≤ℤ get_or (get_or (prisoners 1 2).payoffs s []) k (pos 0)) × (get_or (get_or (prisoners 1 2).payoffs s []) k (pos 0) ≤ℤ pos (2 ^ 26))) payoffs_within s hs k hk;
-  denominator_positive = omega (arith, ints);
-  denominator_small = omega (arith, ints);
-  discounts_listed = refl;
-  discounts_positive = two_at 1 (λ p. 0 < p) (lit< tt);
-  discounts_below = two_at 1 (λ p. p < 2) (lit< tt);
-  q_small = lit≤ tt;
-  lowest = λ d whole each. let e = each 0 (lit< tt) in divides_one d e.0 e.1;
-}
 
 -- ---- the one row level of a row
 times_at_most : (n : ℕ) (x y : ℤ) → x ≤ℤ y → (x *ℤ pos n) ≤ℤ (y *ℤ pos n)

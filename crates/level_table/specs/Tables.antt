@@ -6,13 +6,13 @@ use Rattle.level_table.specs.Problem.{Problem, direction_count, opening_level}
 use Rattle.level_table.specs.Levels.{Table, IsTableOf, IsRow, IsSmall, level_at, levels_in, opening_table}
 
 -- The word that keeps a level: 0 for Empty, and x + 2^62 for the number x.
-abbrev pub word_at : Level → ℕ
-word_at Empty = 0
-word_at (At x) = unsigned_abs (x +ℤ pos (2 ^ 62))
+abbrev pub kept_word : Level → ℕ
+kept_word Empty = 0
+kept_word (At x) = unsigned_abs (x +ℤ pos (2 ^ 62))
 
 -- the word of some small level
 abbrev pub IsWord : ℕ → Type 0
-IsWord word = (l : Level) × IsSmall l × (word ≡ word_at l)
+IsWord word = (l : Level) × IsSmall l × (word ≡ kept_word l)
 
 -- a level for each state and direction, within the limits
 pub record IsWhole (t : Table) : Type 0 where

@@ -1,7 +1,7 @@
 ghost use Rattle.std.specs.Prelude.{◌≡◌, ◌≤◌, ◌↔◌, IsTrue};
 ghost use Rattle.level_table.specs.Levels.{AtMost, IsSmall};
 ghost use Rattle.level_table.specs.Levels.{lesser as lesser_level};
-ghost use Rattle.level_table.specs.Tables.{word_at, IsWord};
+ghost use Rattle.level_table.specs.Tables.{kept_word, IsWord};
 
 /// A level of a state in a direction: a whole number in units of `1/E`, or Empty, which is less than
 /// each number and says that the state has no equilibrium payoff.
@@ -36,7 +36,7 @@ pub fn lesser(a: Level, b: Level) -> Level
 /// So words have the order of their levels.
 pub fn word_of(level: Level) -> u64
     requires { IsSmall level }
-    ensures word { result ≡ word_at level }
+    ensures word { result ≡ kept_word level }
     ensures of_a_level { IsWord result }
 {
     match level {
@@ -48,9 +48,9 @@ pub fn word_of(level: Level) -> u64
 /// The level that a word keeps.
 pub fn level_of(word: u64) -> Level
     requires { IsWord word }
-    ensures level { (l : Level) → IsSmall l → word ≡ word_at l → result ≡ l }
+    ensures level { (l : Level) → IsSmall l → word ≡ kept_word l → result ≡ l }
     ensures small { IsSmall result }
-    ensures word { word ≡ word_at result }
+    ensures word { word ≡ kept_word result }
 {
     if word == 0 {
         Level::Empty
@@ -63,5 +63,5 @@ pub fn level_of(word: u64) -> Level
 pub fn word_order(a: Level, b: Level)
     requires a_small { IsSmall a }
     requires b_small { IsSmall b }
-    ensures { AtMost a b ↔ (word_at a ≤ word_at b) }
+    ensures { AtMost a b ↔ (kept_word a ≤ kept_word b) }
 {}

@@ -24,7 +24,7 @@ pub fn unit(game: &Game, grid: u32) -> i128
     requires { grid ≤ 30 }
     ensures { result ≡ unit_of game.now grid }
 {
-    let factor = fineness(game, grid);
+    let factor = base_times_fineness(game, grid);
     i128::from(game.denominator()) * factor
 }
 
@@ -90,12 +90,12 @@ fn level_in(game: &Game, dirs: &Directions, grid: u32, k: u32) -> i128
     ensures small { unsigned_abs result ≤ 2 ^ 90 }
 {
     dirs.rules();
-    let factor = fineness(game, grid);
+    let factor = base_times_fineness(game, grid);
     factor * i128::from(largest_sum(game, dirs.vector(k)))
 }
 
 /// The base of the discount factors times 2^grid.
-fn fineness(game: &Game, grid: u32) -> i128
+fn base_times_fineness(game: &Game, grid: u32) -> i128
     requires { grid ≤ 30 }
     ensures value { result ≡ pos (game.now.base * 2 ^ grid) }
     ensures small { game.now.base * 2 ^ grid ≤ 2 ^ 60 }

@@ -1,7 +1,7 @@
 ghost use Rattle.level_table.specs.declared.reason.Item.TheVariants as items;
 ghost use Rattle.std.specs.Prelude.{◌≡◌, ◌+◌, ◌<◌, [], ◌∷◌, ◌++◌, length, pos, slice_index_or, IfOk};
 
-use arrayvec::ArrayVec;
+use lists::Few;
 use std::alloc::{AllocError, Global};
 use std::marker::Model;
 
@@ -38,53 +38,7 @@ impl Default for Item {
 }
 
 /// Up to four items, which contracts see as a list.
-#[derive(Drop)]
-pub struct Items {
-    items: ArrayVec<Item, 4>,
-}
-
-impl Model for Items {
-    ghost use Rattle.std.specs.Prelude.{List};
-    ghost use Rattle.level_table.specs.declared.reason.Item.{Item};
-
-    ghost Value = { List Item };
-
-    ghost view = { λ a. a.items.items };
-}
-
-impl Items {
-    /// No items.
-    pub fn new() -> Items
-        ensures { result ≡ [] }
-    {
-        Items {
-            items: ArrayVec::new(),
-        }
-    }
-
-    /// How many items there are.
-    pub fn len(&self) -> u32
-        ensures { result ≡ length self.now }
-    {
-        self.items.len() as u32
-    }
-
-    /// The item at `i`.
-    pub fn get(&self, i: u32) -> &Item
-        requires { i < length self.now }
-        ensures { result.now ≡ slice_index_or self.now i result.now }
-    {
-        &self.items[i as usize]
-    }
-
-    /// Adds `item` at the end.
-    pub fn push(&mut self, item: Item)
-        requires { length self.old < 4 }
-        ensures { self.new ≡ self.old ++ item ∷ [] }
-    {
-        self.items.push(item);
-    }
-}
+pub type Items = Few<Item, 4>;
 
 /// Why nothing is admissible after a profile.
 #[derive(Drop)]

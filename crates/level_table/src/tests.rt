@@ -1,30 +1,8 @@
-ghost use Rattle.std.specs.Prelude.{◌≡◌, IfOk};
-ghost use Rattle.game_model.specs.Parts.{shape_of};
-ghost use Rattle.game_model.specs.Worked.{prisoners};
-
 use super::*;
 use direction_set::Directions;
-use game_model::{Game, GameParts};
-use std::alloc::{AllocError, Global};
+use game_model::Game;
+use game_model::worked::dilemma;
 use std::test::Fail;
-
-/// The parts of the prisoner's dilemma at discount factor 1/2.
-fn dilemma(alloc: Global) -> Result<GameParts, AllocError>
-    ensures { IfOk result (λ p. shape_of p ≡ prisoners 1 2) }
-{
-    let sizes = vec![in alloc; 2, 2]?;
-    let payoffs = vec![in alloc; 2, 2, 3, 0, 0, 3, 1, 1]?;
-    let next = vec![in alloc; 0, 0, 0, 0]?;
-    Ok(GameParts {
-        players: 2,
-        strategies: vec![in alloc; sizes]?,
-        payoffs: vec![in alloc; payoffs]?,
-        next: vec![in alloc; next]?,
-        denominator: 1,
-        discounts: vec![in alloc; 1, 1]?,
-        q: 2,
-    })
-}
 
 #[test]
 fn tables_are_opened_and_compared(rt: HostRuntime) -> Result<(), Fail> {

@@ -5,7 +5,7 @@ use Rattle.std.proofs.lemmas.Int.{ints}
 use Rattle.exact_algebra.specs.Poly.{var, lit, ◌⊕◌, ◌⊗◌}
 use Rattle.exact_algebra.specs.Sums.{dot, total_by}
 use Rattle.exact_algebra.proofs.Normal.{ring}
-use Rattle.exact_algebra.proofs.Order.{times_at_most, times_below, at_most_trans}
+use Rattle.exact_algebra.proofs.Order.{times_at_most, times_below, at_most_trans, times_swap}
 use Rattle.exact_algebra.proofs.Sums.{total_by_at_most, total_by-times_right}
 use Rattle.lp_cert.specs.Program.{Program, IsProgram, Point, Meets, entry, row_at}
 use Rattle.lp_cert.specs.Certificate.{AreWeights, ProvesBound, ProvesEmpty, entry_sum, side_sum}
@@ -55,16 +55,13 @@ sums_at p y items q m w =
     subst (λ z. z ≤ℤ (side_sum p items *ℤ y.den)) (weighed p y.num items)
     (subst (λ z. total_by f items ≤ℤ z) (total_by-times_right y.den (λ (item : ℕ × ℤ). item.1 *ℤ (row_at p item.0).h) items) h)
 
-swapped : (a b : ℤ) → a *ℤ b ≡ b *ℤ a
-swapped a b = ring (a ∷ b ∷ []) (var 0 ⊗ var 1) (var 1 ⊗ var 0) refl
-
 scaled_side : (s t d : ℤ) → pos 0 <ℤ d → s ≤ℤ t → (s *ℤ d) ≤ℤ (t *ℤ d)
 scaled_side s t d p h =
-    subst (λ z. z ≤ℤ (t *ℤ d)) (swapped d s) (subst (λ z. (d *ℤ s) ≤ℤ z) (swapped d t) (times_at_most d s t (omega (arith, ints)) h))
+    subst (λ z. z ≤ℤ (t *ℤ d)) (times_swap d s) (subst (λ z. (d *ℤ s) ≤ℤ z) (times_swap d t) (times_at_most d s t (omega (arith, ints)) h))
 
 scaled_side_below : (s t d : ℤ) → pos 0 <ℤ d → s <ℤ t → (s *ℤ d) <ℤ (t *ℤ d)
 scaled_side_below s t d p h =
-    subst (λ z. z <ℤ (t *ℤ d)) (swapped d s) (subst (λ z. (d *ℤ s) <ℤ z) (swapped d t) (times_below d s t p h))
+    subst (λ z. z <ℤ (t *ℤ d)) (times_swap d s) (subst (λ z. (d *ℤ s) <ℤ z) (times_swap d t) (times_below d s t p h))
 
 pub bound_holds : (p : Program) (objective : List ℤ) (items : List (ℕ × ℤ)) (num den : ℤ) (y : Point) → length objective ≡ 3
     → IsProgram p → ProvesBound p objective items num den → Meets p y → (den *ℤ dot objective y.num) ≤ℤ (num *ℤ y.den)

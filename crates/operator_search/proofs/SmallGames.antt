@@ -1,21 +1,18 @@
 -- Small games keep the limits of a game, and tables of small levels stay so where one level is put.
-use Rattle.std.proofs.Common.{◌≡◌, ℕ, zero, suc, ◌+◌, ◌*◌, ◌^◌, ◌<◌, ◌≤◌, List, [], ◌∷◌, length, get_or, take, All, refl, sym, ◌∙◌, subst, arith, ⊎_elim, ℤ, pos, neg_ℤ, ◌≤ℤ◌, lit≤, lit<}
+use Rattle.std.proofs.Common.{◌≡◌, ℕ, zero, suc, ◌^◌, ◌<◌, ◌≤◌, List, [], ◌∷◌, length, get_or, take, All, refl, sym, ◌∙◌, subst, arith, ⊎_elim, ℤ, pos, neg_ℤ, ◌≤ℤ◌, lit≤, lit<}
 use Rattle.std.specs.Prelude.{replicate, slice_index, slice_index_or}
 use Rattle.std.specs.Int.RustNames.{unsigned_abs}
 use Rattle.std.proofs.lemmas.Bool.{cases_eq}
 use Rattle.std.proofs.lemmas.Int.{ints}
 use Rattle.game_model.specs.Parts.{KeepLimits}
+use Rattle.game_model.proofs.Cases.{divides_one}
 use Rattle.level_table.specs.declared.level.Level.{Level}
 use Rattle.level_table.specs.declared.level.Level.TheVariants.{At}
-use Rattle.level_table.specs.Problem.{Problem, IsProblem, opening_level}
-use Rattle.level_table.specs.Levels.{IsRow, IsSmall, Table, level_at, levels_in}
-use Rattle.level_table.specs.Tables.{HasSmallOpening, IsOpening, IsPut, IsSmallTable}
-use Rattle.level_table.proofs.Sizes.{abs_between, between_abs}
+use Rattle.level_table.specs.Problem.{Problem}
+use Rattle.level_table.specs.Levels.{IsRow, IsSmall, Table, levels_in}
+use Rattle.level_table.specs.Tables.{IsPut, IsSmallTable}
+use Rattle.exact_algebra.proofs.Order.{within_abs}
 use Rattle.operator_search.specs.SmallGames.{AreSmall, small_game}
-
-divides_one : (d k : ℕ) → 1 ≡ d * k → d ≤ 1
-divides_one d zero e = absurd (omega arith)
-divides_one d (suc k) e = omega arith
 
 -- each player's number of strategies
 abbrev pub twos : ℕ → List ℕ
@@ -101,17 +98,10 @@ small_keeps n m a b q us s = let ds : AreDiscounts n q (take n (1 ∷ a ∷ b �
     few (suc t) i known below = absurd (omega arith)
 
     bounded : (t k : ℕ) → t < 1 → k < length (slice_index_or (us ∷ []) t []) → (neg_ℤ (pos (2 ^ 26)) ≤ℤ slice_index_or (slice_index_or (us ∷ []) t []) k (pos 0)) × (slice_index_or (slice_index_or (us ∷ []) t []) k (pos 0) ≤ℤ pos (2 ^ 26))
-    bounded zero k known below = between_abs (get_or us k (pos 0)) (2 ^ 26) (payoff_small us s.payoffs_small k below)
+    bounded zero k known below = within_abs (get_or us k (pos 0)) (2 ^ 26) (payoff_small us s.payoffs_small k below)
     bounded (suc t) k known below = absurd (omega arith)
 
 -- ---- tables
-pub small_opening : (p : Problem) (t : Table) → IsProblem p → IsOpening p t → HasSmallOpening p
-small_opening p t ok opening k known =
-    let x = opening_level p k in
-    let here : level_at t (0 * t.directions + k) ≡ At x = opening.levels 0 k (record { state = omega (arith, ok.game.some_state); direction = known }) in
-    let low : IsSmall (At x) = subst IsSmall here (opening.small (0 * t.directions + k)) in
-    abs_between x (2 ^ 50) low.0 low.1
-
 pub put_is_small : (p : Problem) (t v : Table) (s k : ℕ) (l : Level) → IsSmallTable p t → IsPut t v s k l → IsSmall l → IsSmallTable p v
 put_is_small p t v s k l small put here = record {
   whole = put.whole;
@@ -134,4 +124,4 @@ put_is_small p t v s k l small put here = record {
 
 -- a level within 60 of zero
 pub level_is_small : (x : ℤ) → unsigned_abs x ≤ 60 → IsSmall (At x)
-level_is_small x h = let b = between_abs x 60 h in (omega (arith, ints, b.0), omega (arith, ints, b.1))
+level_is_small x h = let b = within_abs x 60 h in (omega (arith, ints, b.0), omega (arith, ints, b.1))

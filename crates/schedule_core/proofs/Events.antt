@@ -1,23 +1,25 @@
 -- Each event, note and move of passes keeps a core state valid.
-use Rattle.std.proofs.Common.{◌≡◌, ◌⊎◌, ℕ, zero, suc, ◌/◌, ◌%◌, ◌<◌, List, [], ◌∷◌, ◌++◌, length, get_or, set, refl, sym, ap, ◌∙◌, inl, inr, ⊎_elim, Bool, true, false, true≢false, arith}
+use Rattle.std.proofs.Common.{◌≡◌, ◌⊎◌, ℕ, zero, suc, ◌/◌, ◌%◌, ◌<◌, List, [], ◌∷◌, ◌++◌, length, get_or, set, refl, sym, ap, ◌∙◌, inl, inr, ⊎_elim, Bool, true, false, arith}
 use Rattle.std.specs.Prelude.{ℤ}
 use Rattle.std.proofs.lemmas.List.{length-set, length_push, get_or_append_left, get_or-set_other}
+use Rattle.std.proofs.lemmas.Bool.{false≢true}
 use mathlib.Core.Option.{some}
 use lib.ListN.{get_elem?}
 use Rattle.level_table.specs.declared.level.Level.{Level}
 use Rattle.level_table.specs.declared.level.Level.TheVariants.{Empty, At}
 use Rattle.level_table.specs.declared.reason.Note.{Note}
-use Rattle.level_table.specs.Levels.{AtMost, level_at, levels_in, lesser}
+use Rattle.level_table.specs.Levels.{level_at, levels_in, lesser}
 use Rattle.level_table.specs.Notes.{Named, no_note}
 use Rattle.bound_laws.proofs.Notes.{named_is_kept, noted}
+use Rattle.bound_laws.proofs.Levels.{at_most_empty, lesser_number}
 use Rattle.schedule_core.specs.declared.event.Event.{Event}
 use Rattle.schedule_core.specs.declared.event.Event.TheVariants as events
 use Rattle.schedule_core.specs.Frame.{Frame, AreKept, IsAbove, IsFrame, IsNoteOver, IsRowLevelOf, NamedRow, rows_of}
 use Rattle.schedule_core.specs.Core.{AreValid, Core, FitsReader, IsValid, IsWorking, MayHappen, Reader, cleared, copied, ends, joined, loaded, lowered, reader_at, seen_by, sees, split, stepped, takes, word_in}
 use Rattle.schedule_core.specs.Core as core
 use Rattle.schedule_core.proofs.Levels.{row_known, row_level_lowers, seen_is_kept, some_row}
-use Rattle.schedule_core.proofs.Lists.{at_snoc, each_after, each_found, found, got, set_else}
-use Rattle.schedule_core.proofs.Words.{clear_keeps, join_keeps, lesser_at, lesser_number, load_keeps, lower_keeps, split_keeps}
+use Rattle.schedule_core.proofs.Lists.{at_snoc, each_after, each_found, found, got}
+use Rattle.schedule_core.proofs.Words.{clear_keeps, join_keeps, lesser_at, load_keeps, lower_keeps, split_keeps}
 
 -- a row of a named state may be cleared
 pub named_above : (f : Frame) (notes : List Note) (r : ℕ) → IsFrame f → AreKept f notes → r < rows_of f → NamedRow f notes r → IsAbove f r Empty
@@ -121,9 +123,6 @@ still_works c w u r works h = record {
     each_got (x ∷ xs) (suc i) a d h e zero k = k
     each_got (x ∷ xs) (suc i) a d h e (suc j) k = each_got xs i a d (omega arith) e j k
 
-false≢true : false ≡ true → ⊥
-false≢true e = true≢false (sym e)
-
 pub split_valid : (c : Core) (w : ℕ) → IsFrame c.frame → IsValid c → IsWorking c w → IsValid (split c w)
 split_valid c w frame ok works =
     let b = loaded c w 0 in
@@ -136,11 +135,6 @@ split_valid c w frame ok works =
           (λ (new : copied (reader_at b w) ≡ v). absurd (false≢true (ap (λ (x : Reader). x.owner) new ∙ owner)))
           (at_snoc b.readers (copied (reader_at b w)) v id at);
     }
-
-at_most_empty : (l m : Level) → AtMost l m → m ≡ Empty → l ≡ Empty
-at_most_empty Empty m h e = refl
-at_most_empty (At x) Empty h e = absurd h
-at_most_empty (At x) (At y) h e = absurd (cc)
 
 lesser_empty : (l m : Level) → lesser l m ≡ Empty → (l ≡ Empty) ⊎ (m ≡ Empty)
 lesser_empty Empty m e = inl refl

@@ -15,6 +15,7 @@ use Rattle.bound_laws.proofs.Bounding.{above_supported_bounds, row_level_is_kept
 use Rattle.bound_laws.proofs.Directions.{opposite_known}
 use Rattle.bound_laws.proofs.Levels.{level_at_most_trans, lesser_at_most}
 use Rattle.bound_laws.proofs.Opening.{row_level_is_between}
+use Rattle.bound_laws.proofs.Start.{lesser_is_between}
 use Rattle.schedule_core.specs.Frame.{Frame, IsFrame, IsAbove, IsSound, IsSeen, BoundsRow, IsRowLevelOf, rows_of}
 
 some_direction : (f : Frame) → IsFrame f → 0 < f.start.directions
@@ -86,16 +87,11 @@ lesser_small Empty m h k = tt
 lesser_small (At x) Empty h k = tt
 lesser_small (At x) (At y) h k = (omega (arith, ints, clamps), omega (arith, ints, clamps))
 
-lesser_between : (p : Problem) (k : ℕ) (l m : Level) → IsBetween p k l → IsBetween p k m → IsBetween p k (lesser l m)
-lesser_between p k Empty m h n = tt
-lesser_between p k (At x) Empty h n = tt
-lesser_between p k (At x) (At y) h n = (omega (arith, ints, clamps), omega (arith, ints, clamps))
-
 pub lowered_sound : (f : Frame) (r : ℕ) (l m : Level) → IsSound f r l → IsLowering f r m → IsSound f r (lesser l m)
 lowered_sound f r l m h n = record {
   small = lesser_small l m h.small n.small;
   within = (
-    lesser_between f.problem (r % f.start.directions) l m h.within.0 n.between,
+    lesser_is_between f.problem (r % f.start.directions) l m h.within.0 n.between,
     level_at_most_trans (lesser l m) l (level_at f.start r) (lesser_at_most l m) h.within.1,
   );
   above = lesser_is_kept f.problem (levels_in f.start) (r / f.start.directions) (r % f.start.directions) l m h.above n.above;
@@ -106,11 +102,6 @@ sound_lowers f r l h = record { small = h.small; between = h.within.0; above = h
 
 pub empty_sound : (f : Frame) (r : ℕ) → IsAbove f r Empty → IsSound f r Empty
 empty_sound f r above = record { small = tt; within = (tt, tt); above = above }
-
-pub lesser_at_most_second : (l m : Level) → AtMost (lesser l m) m
-lesser_at_most_second Empty m = tt
-lesser_at_most_second (At x) Empty = tt
-lesser_at_most_second (At x) (At y) = omega (arith, ints, clamps)
 
 pub sound_between : (f : Frame) (k : ℕ) (l : Level) → IsFrame f → k < direction_count f.problem → IsBetween f.problem k l → IsSmall l
 sound_between f k Empty ok dir h = tt

@@ -1,14 +1,14 @@
 -- What a step does to words and workers keeps them valid, over any views of which a reader can be told.
-use Rattle.std.proofs.Common.{◌≡◌, ◌≢◌, ℕ, zero, suc, ◌<◌, List, [], ◌∷◌, ◌++◌, map, length, get_or, set, refl, sym, ap, subst, ◌∙◌, inl, inr, ⊎_elim, true, false, true≢false, arith}
+use Rattle.std.proofs.Common.{◌≡◌, ◌≢◌, ℕ, zero, suc, ◌<◌, List, [], ◌∷◌, ◌++◌, map, length, get_or, set, refl, sym, ap, subst, ◌∙◌, inl, inr, ⊎_elim, true, false, arith}
 use Rattle.std.specs.Prelude.{ℤ}
 use Rattle.std.proofs.lemmas.List.{length-set}
-use Rattle.std.proofs.lemmas.Bool.{cases_eq}
+use Rattle.std.proofs.lemmas.Bool.{cases_eq, false≢true}
 use mathlib.Core.Option.{some}
 use lib.ListN.{get_elem?}
 use Rattle.level_table.specs.declared.level.Level.{Level}
 use Rattle.level_table.specs.declared.level.Level.TheVariants.{Empty, At}
 use Rattle.level_table.specs.Levels.{Table, AtMost, level_at, lesser}
-use Rattle.bound_laws.proofs.Levels.{level_at_most_self, level_at_most_trans, at_most_lesser, lesser_at_most}
+use Rattle.bound_laws.proofs.Levels.{level_at_most_self, level_at_most_trans, at_most_lesser, lesser_at_most, lesser_number}
 use Rattle.schedule_core.specs.Frame.{Frame, IsAbove, IsSeen, IsSound, lesser_each, lesser_table, rows_of, with_level}
 use Rattle.schedule_core.specs.Core.{AreValid, FitsReader, Reader, copied, sees, takes}
 use Rattle.schedule_core.proofs.Levels.{IsLowering, empty_sound, lowered_sound, sound_lowers}
@@ -109,11 +109,6 @@ write_keeps reader f levels views id v w r l ok at working within sound fell sta
     (λ _. subst (FitsReader f (set levels r l)) (sym is) fresh)
     (λ j u ne there h. fits_lowered f levels (reader u) r l ok.one_each within fell (stays j u ne there) h)
 
--- the lesser of a level and a number is Empty only where the level is
-pub lesser_number : (l : Level) (x : ℤ) → lesser l (At x) ≡ Empty → l ≡ Empty
-lesser_number Empty x e = refl
-lesser_number (At y) x e = absurd (cc)
-
 -- a lowering of row r to the level x
 pub lower_keeps : {V : Type 0} (reader : V → Reader) (f : Frame) (levels : List Level) (views : List V) (id : ℕ) (v w : V) (r : ℕ) (x : ℤ) → AreValid reader f levels views → get_elem? views id ≡ some v
     → (reader v).ended ≡ false → r < rows_of f → IsLowering f r (At x) → reader w ≡ sees (reader v) r (lesser (get_or levels r Empty) (At x))
@@ -128,9 +123,6 @@ pub clear_keeps : {V : Type 0} (reader : V → Reader) (f : Frame) (levels : Lis
 clear_keeps reader f levels views id v w r ok at working owner within above is =
     write_keeps reader f levels views id v w r Empty ok at working within (empty_sound f r above) tt
     (λ j u ne there too _. absurd (ne (ok.one_owner j u there too ∙ sym (ok.one_owner id v at owner)))) is
-
-false≢true : false ≡ true → ⊥
-false≢true e = true≢false (sym e)
 
 -- a new worker, who has seen as much
 pub split_keeps : {V : Type 0} (reader : V → Reader) (f : Frame) (levels : List Level) (views : List V) (id : ℕ) (v w : V) → AreValid reader f levels views → get_elem? views id ≡ some v
@@ -149,7 +141,7 @@ split_keeps {V} reader f levels views id v w ok at working is =
       first_stays = ok.first_stays;
     }
 
-length-lesser : (ls ms : List Level) → length ls ≡ length ms → length (lesser_each ls ms) ≡ length ls
+pub length-lesser : (ls ms : List Level) → length ls ≡ length ms → length (lesser_each ls ms) ≡ length ls
 length-lesser [] ms e = refl
 length-lesser (l ∷ ls) [] e = absurd (omega arith)
 length-lesser (l ∷ ls) (m ∷ ms) e = ap suc (length-lesser ls ms (omega arith))

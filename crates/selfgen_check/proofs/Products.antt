@@ -1,15 +1,9 @@
 -- Products of small numbers, as the code forms them.
 use Rattle.std.proofs.Common.{◌≡◌, ℕ, ◌+◌, ◌*◌, ◌^◌, ◌<◌, ◌≤◌, ap, arith, to_z, of_z, FitsSigned}
-use Rattle.std.specs.Prelude.{ℤ, ◌+ℤ◌, ◌*ℤ◌, unsigned_abs}
-use Rattle.std.proofs.lemmas.Int.{fits_signed_mul, fits_signed_from_abs, to_z-of_z}
+use Rattle.std.specs.Prelude.{ℤ, ◌+ℤ◌, unsigned_abs}
+use Rattle.std.proofs.lemmas.Int.{fits_signed_from_abs, to_z-of_z}
 use Rattle.exact_algebra.proofs.Order.{abs_sum}
-use mir.Syntax.{Width, w128}
-use mir.Val.{hbits}
-
-pub product_is : (w : Width) (x y : ℤ) (m n : ℕ) → FitsSigned w x → FitsSigned w y → unsigned_abs x ≤ m → unsigned_abs y ≤ n → m * n < 2 ^ hbits w →
-    to_z w (of_z w (to_z w (of_z w x) *ℤ to_z w (of_z w y))) ≡ x *ℤ y
-product_is w x y m n f g p q h =
-    rw (to_z-of_z w x f, to_z-of_z w y g) (to_z-of_z w (x *ℤ y) (fits_signed_mul w x y m n p q h))
+use mir.Syntax.{w128}
 
 -- one more summand of a sum over a lottery
 pub one_more : (s t z : ℤ) (k : ℕ) → k < 4 → unsigned_abs s ≤ k * 2 ^ 113 → t ≡ z → unsigned_abs t ≤ 2 ^ 113 →

@@ -1,13 +1,13 @@
 ghost use Rattle.std.specs.Prelude.{◌≡◌, ℕ, ◌^◌, ◌<◌, ◌≤◌, [], ◌∷◌, ◌++◌, length, pos, ◌≤ℤ◌, slice_index_or, unsigned_abs};
 
-use arrayvec::ArrayVec;
+use lists::Few;
 use std::marker::Model;
 
 /// Up to four outcomes, each the number of an entry with its weight. A weight is a whole number of at most 2^83, and may be 0.
 /// Contracts see a list of pairs.
 #[derive(Drop)]
 pub struct Lottery {
-    items: ArrayVec<(u32, u128), 4>,
+    items: Few<(u32, u128), 4>,
 }
 
 impl Model for Lottery {
@@ -15,9 +15,9 @@ impl Model for Lottery {
 
     ghost Value = { List (ℕ × ℕ) };
 
-    ghost view = { λ a. a.items.items };
+    ghost view = { λ a. a.items };
 
-    ghost invariant = { λ a. All (λ o. o.1 ≤ 2 ^ 83) a.items.items };
+    ghost invariant = { λ a. All (λ o. o.1 ≤ 2 ^ 83) a.items };
 }
 
 impl Lottery {
@@ -25,9 +25,7 @@ impl Lottery {
     pub fn new() -> Lottery
         ensures { result ≡ [] }
     {
-        Lottery {
-            items: ArrayVec::new(),
-        }
+        Lottery { items: Few::new() }
     }
 
     /// A law: there are at most four outcomes, with weights of at most 2^83.
@@ -35,7 +33,7 @@ impl Lottery {
         ensures few { length self.now ≤ 4 }
         ensures small { (k : ℕ) → k < length self.now → (slice_index_or self.now k (0, 0)).1 ≤ 2 ^ 83 }
     {
-        let _count = self.items.len();
+        self.items.rules();
     }
 
     /// How many outcomes there are.
@@ -43,7 +41,7 @@ impl Lottery {
         ensures count { result ≡ length self.now }
         ensures few { result ≤ 4 }
     {
-        self.items.len() as u32
+        self.items.len()
     }
 
     /// The number of the entry that is outcome `i`.
@@ -51,7 +49,7 @@ impl Lottery {
         requires { i < length self.now }
         ensures { result ≡ (slice_index_or self.now i (0, 0)).0 }
     {
-        self.items[i as usize].0
+        self.items.get(i).0
     }
 
     /// The weight of outcome `i`.
@@ -60,7 +58,7 @@ impl Lottery {
         ensures weight { result ≡ pos (slice_index_or self.now i (0, 0)).1 }
         ensures small { (slice_index_or self.now i (0, 0)).1 ≤ 2 ^ 83 }
     {
-        self.items[i as usize].1 as i128
+        self.items.get(i).1 as i128
     }
 
     /// Adds an outcome at the end.

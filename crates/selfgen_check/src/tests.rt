@@ -1,10 +1,8 @@
-ghost use Rattle.std.specs.Prelude.{◌≡◌, IfOk};
-ghost use Rattle.game_model.specs.Parts.{shape_of};
-ghost use Rattle.game_model.specs.Worked.{prisoners};
 ghost use Rattle.selfgen_check.specs.Limits.{KeepsLimits};
 
 use super::*;
-use game_model::{Game, GameParts, List};
+use game_model::worked::dilemma;
+use game_model::{Game, List};
 use std::alloc::{AllocError, Global};
 use std::test::Fail;
 
@@ -150,24 +148,6 @@ const CASES: [Case; 18] = [
         }),
     },
 ];
-
-/// The prisoner's dilemma at discount factor 1/2.
-fn dilemma(alloc: Global) -> Result<GameParts, AllocError>
-    ensures { IfOk result (λ p. shape_of p ≡ prisoners 1 2) }
-{
-    let sizes = vec![in alloc; 2, 2]?;
-    let payoffs = vec![in alloc; 2, 2, 3, 0, 0, 3, 1, 1]?;
-    let next = vec![in alloc; 0, 0, 0, 0]?;
-    Ok(GameParts {
-        players: 2,
-        strategies: vec![in alloc; sizes]?,
-        payoffs: vec![in alloc; payoffs]?,
-        next: vec![in alloc; next]?,
-        denominator: 1,
-        discounts: vec![in alloc; 1, 1]?,
-        q: 2,
-    })
-}
 
 fn lottery_of(outcomes: &[(u32, i128)]) -> Lottery {
     let mut lottery = Lottery::new();

@@ -1,24 +1,15 @@
 -- Numbers that fit their types.
 use Rattle.std.proofs.Common.{◌≡◌, ℕ, zero, suc, ◌+◌, ◌*◌, ◌^◌, ◌<◌, ◌≤◌, List, [], ◌∷◌, length, take, refl, sym, ◌∙◌, ap, subst, arith}
 use Rattle.std.specs.Prelude.{ℤ, pos, All, ◌+ℤ◌, ◌*ℤ◌}
-use Rattle.std.specs.Int.{w32, w64, w128}
+use Rattle.std.specs.Int.{w128}
 use Rattle.std.specs.Int.RustNames.{FitsSigned, unsigned_abs}
-use Rattle.std.proofs.lemmas.Int.{fits_signed_from_abs}
 use Rattle.std.proofs.lemmas.List.{get_or_default, get_or-take, length-take}
 use Rattle.exact_algebra.specs.Poly.{var, lit, ◌⊕◌}
 use Rattle.exact_algebra.proofs.Normal.{ring}
 use Rattle.exact_algebra.proofs.Order.{abs_product, abs_sum}
+use Rattle.exact_algebra.proofs.Fits.{fits128}
 use Rattle.game_model.specs.SelfGeneration.{sum_below}
 use Rattle.lp_cert.specs.Program.{entry}
-
-pub fits32 : (x : ℤ) (m : ℕ) → unsigned_abs x ≤ m → m < 2 ^ 31 → FitsSigned w32 x
-fits32 x m h l = fits_signed_from_abs w32 x (omega (arith, h, l))
-
-pub fits64 : (x : ℤ) (m : ℕ) → unsigned_abs x ≤ m → m < 2 ^ 63 → FitsSigned w64 x
-fits64 x m h l = fits_signed_from_abs w64 x (omega (arith, h, l))
-
-pub fits128 : (x : ℤ) (m : ℕ) → unsigned_abs x ≤ m → m < 2 ^ 127 → FitsSigned w128 x
-fits128 x m h l = fits_signed_from_abs w128 x (omega (arith, h, l))
 
 -- the first n of a list are small where they are so by number
 pub take_small : (xs : List ℤ) (n m : ℕ) → n ≤ length xs → ((i : ℕ) → i < n → unsigned_abs (entry xs i) ≤ m) → All (λ x. unsigned_abs x ≤ m) (take n xs)

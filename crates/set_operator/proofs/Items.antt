@@ -10,20 +10,17 @@ use Rattle.game_model.specs.SelfGeneration.{part}
 use Rattle.level_table.specs.declared.level.Level.TheVariants.{At}
 use Rattle.level_table.specs.declared.reason.Item.{Item}
 use Rattle.level_table.specs.declared.reason.Item.TheVariants as items
-use Rattle.level_table.specs.Iterates.{number_of}
 use Rattle.level_table.specs.Problem.{Problem, IsProblem, direction_count, direction, plus_axis, minus_axis, gain}
 use Rattle.level_table.specs.Levels.{Levels}
 use Rattle.level_table.specs.Notes.{IsItem, coefficient, right_side, multiplier, levels_of, added_coefficients, added_right_sides}
 use Rattle.level_table.specs.Reasons.{IsProgramCertificate, IsProgramRow, IsGainRow}
+use Rattle.level_table.proofs.Numbers.{number_at}
 use Rattle.lp_cert.specs.Program.{Program, row_at, entry}
 use Rattle.lp_cert.specs.Certificate.{ProvesEmpty, entry_sum, side_sum}
 use Rattle.set_operator.specs.declared.boxes.ProfileBox.{ProfileBox}
 use Rattle.set_operator.specs.Boxes.{IsBoxOf, IsSource, side_at}
 use Rattle.set_operator.specs.Program.{AreItemsOf, IsItemOf, IsProgramOf}
 use Rattle.set_operator.proofs.Programs.{by_axis}
-
-pub same_number : (x y : ℤ) → At x ≡ At y → x ≡ y
-same_number x y e = ap number_of e
 
 turned : (g y x l : ℤ) → x ≡ l → l ≤ℤ (y -ℤ g) → (g -ℤ y) ≤ℤ neg_ℤ x
 turned g y x l e h = omega (arith, ints)
@@ -38,11 +35,11 @@ level_right : (p : Problem) (t : Levels) (b : ProfileBox) (k : ℕ) (x : ℤ) (r
 level_right p t b k x rows box within at none prog =
     elim (cases_lt k (2 * p.game.players)) [
       | inl axis ↦ by_axis (λ j. j ≡ k → x ≡ (row_at rows j).h) p.game.players
-          (λ i w e. same_number x (side_at b i).upper (sym at ∙ ap (λ j. t b.next j) (sym e) ∙ ap (λ s. t s (plus_axis i)) box.next ∙ (box.sides i w).upper) ∙ sym (prog.upper i w))
-          (λ i w e. same_number x (side_at b i).lower (sym at ∙ ap (λ j. t b.next j) (sym e) ∙ ap (λ s. t s (minus_axis i)) box.next
+          (λ i w e. number_at x (side_at b i).upper (sym at ∙ ap (λ j. t b.next j) (sym e) ∙ ap (λ s. t s (plus_axis i)) box.next ∙ (box.sides i w).upper) ∙ sym (prog.upper i w))
+          (λ i w e. number_at x (side_at b i).lower (sym at ∙ ap (λ j. t b.next j) (sym e) ∙ ap (λ s. t s (minus_axis i)) box.next
           ∙ (subst (λ o. IsSource p t b.state b.profile i (side_at b i).lower o) (none i w (sym e)) (box.sides i w).source).0) ∙ sym (prog.lower i w))
           k axis refl
-      | inr past ↦ same_number x (row_at rows k).h (sym at ∙ prog.others k past within)
+      | inr past ↦ number_at x (row_at rows k).h (sym at ∙ prog.others k past within)
     ]
 
 pub item_level : (p : Problem) (t : Levels) (b : ProfileBox) (k : ℕ) (x times : ℤ) → IsBoxOf p t b → k < direction_count p → t b.next k ≡ At x
@@ -54,7 +51,7 @@ item_level p t b k x times box within at none = record {
   kept = (within, ap (λ s. t s k) (sym box.next) ∙ at);
   program_row = λ i c y e d kept.
       let source = subst (λ o. IsSource p t b.state b.profile i (side_at b i).lower o) (none i d.player e) (box.sides i d.player).source in
-      let lower_is : x ≡ (side_at b i).lower = same_number x (side_at b i).lower (sym at ∙ ap (λ j. t b.next j) e ∙ ap (λ s. t s (minus_axis i)) box.next ∙ source.0) in
+      let lower_is : x ≡ (side_at b i).lower = number_at x (side_at b i).lower (sym at ∙ ap (λ j. t b.next j) e ∙ ap (λ s. t s (minus_axis i)) box.next ∙ source.0) in
       let asks : (side_at b i).lower ≤ℤ (y -ℤ gain p b.state b.profile i c) = source.1 c y d kept in
       turned (gain p b.state b.profile i c) y x (side_at b i).lower lower_is asks;
 }
@@ -72,7 +69,7 @@ pub item_gain : (p : Problem) (t : Levels) (b : ProfileBox) (i st : ℕ) (x time
 item_gain p t b i st x times ok box player by kept =
     let source = subst (λ o. IsSource p t b.state b.profile i (side_at b i).lower o) by (box.sides i player).source in
     let gained : IsGainRow p t b.state b.profile i st source.0 = source.1 in
-    let is : source.0 ≡ x = same_number source.0 x (sym gained.kept ∙ kept) in
+    let is : source.0 ≡ x = number_at source.0 x (sym gained.kept ∙ kept) in
     let lower_is : (side_at b i).lower ≡ x -ℤ gain p b.state b.profile i st = source.2 ∙ ap (λ z. z -ℤ gain p b.state b.profile i st) is in
     record {
       times_is = refl;

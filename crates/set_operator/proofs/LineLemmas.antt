@@ -11,7 +11,8 @@ use Rattle.std.proofs.Math.Nat.{div-le_self, mul-le-mul}
 use Rattle.std.proofs.Math.Pow.{pow_mono}
 use Rattle.exact_algebra.specs.Poly.{var, ◌⊖◌, ◌⊗◌}
 use Rattle.exact_algebra.proofs.Normal.{ring}
-use Rattle.exact_algebra.proofs.Order.{abs_difference, abs_product, abs_sum, below_at_most_trans}
+use Rattle.exact_algebra.proofs.Order.{abs_difference, abs_product, abs_sum, below_at_most_trans, at_most_from_same}
+use Rattle.exact_algebra.proofs.Fits.{fits64}
 use Rattle.game_model.specs.Game.{DynamicGame, IsGame, IsState, states, counts, profile_count, payoff_at, strategy_at, deviation_at, reached, successor}
 use Rattle.game_model.proofs.Profiles.{Moves, strategy_below}
 use Rattle.level_table.specs.declared.level.Level.{Level}
@@ -28,7 +29,7 @@ use Rattle.set_operator.specs.Lines.{AreAll, AreAsks, IsKnownLine, IsLine, IsLin
 use Rattle.set_operator.specs.declared.lines.Asks.{Asks}
 use Rattle.set_operator.specs.declared.lines.Line.{Line}
 use Rattle.set_operator.proofs.Openings.{payoff_scaled}
-use Rattle.set_operator.proofs.Scales.{W, fewer_times, fits_in, kept}
+use Rattle.set_operator.proofs.Scales.{W, fewer_times, kept}
 use Rattle.set_operator.proofs.Strides.{moves_of}
 
 -- ---- what a payoff counts, in 64 bits
@@ -42,7 +43,7 @@ inner_is : (k u x : ℤ) → IsCounted k u x → W u *ℤ W x ≡ u *ℤ x
 inner_is k u x h = rw (kept u (2 ^ 60) h.u_small (lit< tt), kept x (2 ^ 26) h.x_small (lit< tt)) refl
 
 pub inner_fits : (k u x : ℤ) → IsCounted k u x → FitsSigned w64 (W u *ℤ W x)
-inner_fits k u x h = rw (inner_is k u x h) (fits_in (u *ℤ x) (2 ^ 50) h.product_small (lit< tt))
+inner_fits k u x h = rw (inner_is k u x h) (fits64 (u *ℤ x) (2 ^ 50) h.product_small (lit< tt))
 
 counted_small : (k u x : ℤ) → IsCounted k u x → unsigned_abs (k *ℤ (u *ℤ x)) ≤ 2 ^ 10 * 2 ^ 50
 counted_small k u x h = abs_product k (u *ℤ x) (2 ^ 10) (2 ^ 50) h.k_small h.product_small
@@ -51,7 +52,7 @@ outer_is : (k u x : ℤ) → IsCounted k u x → W k *ℤ W (W u *ℤ W x) ≡ k
 outer_is k u x h = rw (inner_is k u x h, kept k (2 ^ 10) h.k_small (lit< tt), kept (u *ℤ x) (2 ^ 50) h.product_small (lit< tt)) refl
 
 pub outer_fits : (k u x : ℤ) → IsCounted k u x → FitsSigned w64 (W k *ℤ W (W u *ℤ W x))
-outer_fits k u x h = rw (outer_is k u x h) (fits_in (k *ℤ (u *ℤ x)) (2 ^ 10 * 2 ^ 50) (counted_small k u x h) (lit< tt))
+outer_fits k u x h = rw (outer_is k u x h) (fits64 (k *ℤ (u *ℤ x)) (2 ^ 10 * 2 ^ 50) (counted_small k u x h) (lit< tt))
 
 pub counted_is : (k u x : ℤ) → IsCounted k u x → W (W k *ℤ W (W u *ℤ W x)) ≡ k *ℤ (u *ℤ x)
 counted_is k u x h = rw (outer_is k u x h) (kept (k *ℤ (u *ℤ x)) (2 ^ 10 * 2 ^ 50) (counted_small k u x h) (lit< tt))
@@ -133,9 +134,6 @@ same_term p t s i a x y (v, here, is) (w, there, also) =
     let e : v ≡ w = ap number (sym here ∙ there) in
     is ∙ ap (λ z. z -ℤ worth p s a i) e ∙ sym also
 
-at_most_self : (x y : ℤ) → x ≡ y → x ≤ℤ y
-at_most_self x y e = omega (arith, ints, e)
-
 weaker : (x z : ℤ) → x <ℤ z → x ≤ℤ z
 weaker x z l = omega (arith, ints)
 
@@ -146,7 +144,7 @@ line_start p t s a i x here known small = record {
   known = λ b below. let z : b ≡ 0 = omega arith in subst (λ c. IsKnown p t (reached p.game s a i c)) (sym z) known;
   inside = omega arith;
   here = here;
-  least = λ b y below e. let z : b ≡ 0 = omega arith in at_most_self x y (same_term p t s i (deviation_at p.game s a i 0) x y here (subst (λ c. IsTerm p t s i (deviation_at p.game s a i c) y) z e));
+  least = λ b y below e. let z : b ≡ 0 = omega arith in at_most_from_same x y (same_term p t s i (deviation_at p.game s a i 0) x y here (subst (λ c. IsTerm p t s i (deviation_at p.game s a i c) y) z e));
   earlier = λ b y below e. absurd (omega arith);
   small = small;
 }
@@ -172,7 +170,7 @@ line_take p t s a i n line x h new known small less = record {
   inside = omega arith;
   here = new;
   least = λ b y below e. elim (cases_eq n b) [
-    | inl same ↦ at_most_self x y (same_term p t s i (deviation_at p.game s a i n) x y new (subst (λ c. IsTerm p t s i (deviation_at p.game s a i c) y) (sym same) e))
+    | inl same ↦ at_most_from_same x y (same_term p t s i (deviation_at p.game s a i n) x y new (subst (λ c. IsTerm p t s i (deviation_at p.game s a i c) y) (sym same) e))
     | inr other ↦ weaker x y (below_at_most_trans x line.least y less (h.least b y (omega arith) e))
   ];
   earlier = λ b y below e. below_at_most_trans x line.least y less (h.least b y below e);
@@ -407,12 +405,12 @@ more_small own least w v h = abs_difference own least (2 ^ 61) (2 ^ 61) (own_sma
 pub more_fits : (own least w v : ℤ) → IsFormed own least w v → FitsSigned w64 (W own -ℤ W least)
 more_fits own least w v h =
     rw (kept own (2 ^ 61) (own_small own w v h.w_small h.v_small h.own_is) (lit< tt), kept least (2 ^ 61) h.least_small (lit< tt))
-    (fits_in (own -ℤ least) (2 ^ 61 + 2 ^ 61) (more_small own least w v h) (lit< tt))
+    (fits64 (own -ℤ least) (2 ^ 61 + 2 ^ 61) (more_small own least w v h) (lit< tt))
 
 pub lower_fits : (own least w v : ℤ) → IsFormed own least w v → FitsSigned w64 (W w -ℤ W (W own -ℤ W least))
 lower_fits own least w v h =
     rw (more_is own least w v h, kept w (2 ^ 50) h.w_small (lit< tt))
-    (fits_in (w -ℤ (own -ℤ least)) (2 ^ 50 + (2 ^ 61 + 2 ^ 61)) (abs_difference w (own -ℤ least) (2 ^ 50) (2 ^ 61 + 2 ^ 61) h.w_small (more_small own least w v h)) (lit< tt))
+    (fits64 (w -ℤ (own -ℤ least)) (2 ^ 50 + (2 ^ 61 + 2 ^ 61)) (abs_difference w (own -ℤ least) (2 ^ 50) (2 ^ 61 + 2 ^ 61) h.w_small (more_small own least w v h)) (lit< tt))
 
 pub lower_code : (own least w v : ℤ) → IsFormed own least w v → W (W w -ℤ W (W own -ℤ W least)) ≡ least +ℤ v
 lower_code own least w v h =

@@ -7,7 +7,7 @@ use Rattle.exact_algebra.proofs.Normal.{ring}
 use Rattle.exact_algebra.proofs.Order.{plus_at_most, at_most_from_same, at_most_self, times_at_most}
 use Rattle.bound_laws.proofs.Order.{at_most_along}
 use Rattle.bound_laws.proofs.Directions.{dot-plus_axis}
-use Rattle.bound_laws.proofs.Sums.{sum_below-same, sum_below-plus, sum_below-times}
+use Rattle.bound_laws.proofs.Sums.{sum_below-same, sum_below-plus, sum_below-times, sum_below-zero}
 use Rattle.game_model.specs.Game.{payoff_at}
 use Rattle.game_model.specs.SelfGeneration.{part, sum_below, dot}
 use Rattle.level_table.specs.declared.level.Level.{Level}
@@ -122,12 +122,8 @@ at_most_box p t b k g z ok box within spread adm =
 nothing_more : (m : ℕ) (z : ℤ) → pos (m - m) *ℤ z ≡ pos 0
 nothing_more m z = let e : m - m ≡ 0 = omega arith in rw e (ring (z ∷ []) (lit (pos 0) ⊗ var 0) (lit (pos 0)) refl)
 
-sum_of_noughts : (f : ℕ → ℤ) (n : ℕ) → ((i : ℕ) → i < n → f i ≡ pos 0) → sum_below f n ≡ pos 0
-sum_of_noughts f zero h = refl
-sum_of_noughts f (suc n) h = ap (λ z. z +ℤ f n) (sum_of_noughts f n (λ i w. h i (omega arith))) ∙ ap (λ z. pos 0 +ℤ z) (h n (omega arith))
-
 pub no_spread : (p : Problem) (b : ProfileBox) (k least : ℕ) → ((i : ℕ) → i < p.game.players → discount_at p i ≡ least) → IsMostSpread p b k least (pos 0)
 no_spread p b k least same y den positive within =
     at_most_from_same (sum_below (spread_term p k least y) p.game.players) (pos 0 *ℤ den)
-    (sum_of_noughts (spread_term p k least y) p.game.players (λ i w. ap (λ m. pos (m - least) *ℤ (part (direction p k) i *ℤ part y i)) (same i w) ∙ nothing_more least (part (direction p k) i *ℤ part y i))
+    (sum_below-zero (spread_term p k least y) p.game.players (λ i w. ap (λ m. pos (m - least) *ℤ (part (direction p k) i *ℤ part y i)) (same i w) ∙ nothing_more least (part (direction p k) i *ℤ part y i))
     ∙ ring (den ∷ []) (lit (pos 0)) (lit (pos 0) ⊗ var 0) refl)

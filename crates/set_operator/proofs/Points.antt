@@ -7,8 +7,8 @@ use Rattle.std.proofs.lemmas.List.{get_or_default}
 use Rattle.exact_algebra.specs.Poly.{var, lit, neg, ◌⊕◌, ◌⊖◌, ◌⊗◌}
 use Rattle.exact_algebra.specs.Sums.{dot}
 use Rattle.exact_algebra.proofs.Normal.{ring}
-use Rattle.exact_algebra.proofs.Order.{times_at_most}
-use Rattle.bound_laws.proofs.Order.{at_most_along, widen, swap}
+use Rattle.exact_algebra.proofs.Order.{times_at_most, times_swap}
+use Rattle.bound_laws.proofs.Order.{at_most_along, widen}
 use Rattle.bound_laws.proofs.Directions.{dot-minus_axis}
 use Rattle.game_model.specs.Game.{successor, reached, IsDeviation}
 use Rattle.game_model.specs.SelfGeneration.{part}
@@ -17,13 +17,13 @@ use Rattle.level_table.specs.declared.level.Level.TheVariants.{At}
 use Rattle.level_table.specs.Problem.{Problem, IsProblem, direction_count, direction, plus_axis, minus_axis, gain}
 use Rattle.level_table.specs.Levels.{Levels}
 use Rattle.level_table.specs.Operator.{Admissible, Fractions}
+use Rattle.level_table.proofs.Numbers.{number_at}
 use Rattle.lp_cert.specs.Program.{Program, Meets, row_at}
 use Rattle.lp_cert.specs.Program.{Point as FractionVector}
 use Rattle.set_operator.specs.declared.boxes.ProfileBox.{ProfileBox}
 use Rattle.set_operator.specs.Boxes.{IsBoxOf, IsSource, side_at}
 use Rattle.set_operator.specs.Program.{IsProgramOf}
 use Rattle.set_operator.proofs.Programs.{by_axis, direction_width, direction_unused}
-use Rattle.set_operator.proofs.Items.{same_number}
 
 -- ---- vectors
 -- the first three parts of a vector, 0 where it has none
@@ -76,7 +76,7 @@ direction_dot p k y ok within =
 -- ---- the lower side
 -- it is at most the next state's level, and asks for what each deviation asks
 pub lower_at_most : (p : Problem) (t : Levels) (s a i : ℕ) (l w : ℤ) (by : Option ℕ) → IsSource p t s a i l by → t (successor p.game s a) (minus_axis i) ≡ At w → l ≤ℤ w
-lower_at_most p t s a i l w None h e = let same : l ≡ w = same_number l w (sym h.0 ∙ e) in omega (arith, ints)
+lower_at_most p t s a i l w None h e = let same : l ≡ w = number_at l w (sym h.0 ∙ e) in omega (arith, ints)
 lower_at_most p t s a i l w (Some st) h e = let below : l <ℤ w = h.3 w e in omega (arith, ints)
 
 turned_most : (g y h x l : ℤ) → (g -ℤ y) ≤ℤ (h -ℤ x) → l ≡ x -ℤ h → l ≤ℤ (y -ℤ g)
@@ -136,16 +136,16 @@ kept_half_plane : (p : Problem) (t : Levels) (b : ProfileBox) (rows : Program) (
 kept_half_plane p t b rows k x n den ok box prog positive within at h =
     elim (cases_lt k (2 * p.game.players)) [
       | inl axis ↦ by_axis (λ j. t (successor p.game b.state b.profile) j ≡ At x → n ≤ℤ ((row_at rows j).h *ℤ den) → n ≤ℤ (x *ℤ den)) p.game.players
-          (λ i w e g. at_most_along refl (ap (λ u. u *ℤ den) (prog.upper i w ∙ same_number (side_at b i).upper x (sym (box.sides i w).upper ∙ e))) g)
+          (λ i w e g. at_most_along refl (ap (λ u. u *ℤ den) (prog.upper i w ∙ number_at (side_at b i).upper x (sym (box.sides i w).upper ∙ e))) g)
           (λ i w e g. widen den n (side_at b i).lower x positive (lower_at_most p t b.state b.profile i (side_at b i).lower x (side_at b i).by (box.sides i w).source e)
           (at_most_along refl (ap (λ u. u *ℤ den) (prog.lower i w)) g))
           k axis at h
-      | inr past ↦ at_most_along refl (ap (λ u. u *ℤ den) (same_number (row_at rows k).h x (sym (prog.others k past within) ∙ ap (λ s. t s k) box.next ∙ at))) h
+      | inr past ↦ at_most_along refl (ap (λ u. u *ℤ den) (number_at (row_at rows k).h x (sym (prog.others k past within) ∙ ap (λ s. t s k) box.next ∙ at))) h
     ]
 
 asked : (g y l n den : ℤ) → pos 0 <ℤ den → l ≤ℤ (y -ℤ g) → neg_ℤ n ≤ℤ (l *ℤ den) → ((g -ℤ y) *ℤ den) ≤ℤ n
 asked g y l n den positive h k =
-    let more : (l *ℤ den) ≤ℤ ((y -ℤ g) *ℤ den) = at_most_along (swap den l) (swap den (y -ℤ g)) (times_at_most den l (y -ℤ g) (omega (arith, ints)) h) in
+    let more : (l *ℤ den) ≤ℤ ((y -ℤ g) *ℤ den) = at_most_along (times_swap den l) (times_swap den (y -ℤ g)) (times_at_most den l (y -ℤ g) (omega (arith, ints)) h) in
     let turn : (y -ℤ g) *ℤ den ≡ neg_ℤ ((g -ℤ y) *ℤ den) = ring (y ∷ g ∷ den ∷ []) ((var 0 ⊖ var 1) ⊗ var 2) (neg ((var 1 ⊖ var 0) ⊗ var 2)) refl in
     omega (arith, ints)
 

@@ -7,12 +7,12 @@ use Rattle.exact_algebra.specs.Poly.{var, lit, ◌⊖◌, ◌⊗◌}
 use Rattle.exact_algebra.proofs.Normal.{ring}
 use Rattle.exact_algebra.proofs.Order.{below_at_most_trans, below_from_times, product_above_zero}
 use Rattle.game_model.specs.Game.{states, counts, profile_count, successor, reached, IsDeviation}
-use Rattle.level_table.specs.declared.level.Level.{Level}
-use Rattle.level_table.specs.declared.level.Level.TheVariants.{At, Empty}
+use Rattle.level_table.specs.declared.level.Level.TheVariants.{At}
 use Rattle.level_table.specs.Problem.{Problem, IsProblem, plus_axis, minus_axis}
 use Rattle.level_table.specs.Levels.{Levels}
 use Rattle.level_table.specs.Operator.{HasAdmissible, IsRowLevel, value, value_unit}
 use Rattle.level_table.specs.Reasons.{AreKnown, IsGainRow, IsKnown}
+use Rattle.level_table.proofs.Numbers.{number_at}
 use Rattle.bound_laws.proofs.Operator.{row_level_is_unique}
 use Rattle.bound_laws.proofs.Places.{minus_axis_known, next_state, plus_axis_known, reached_state, q_positive}
 use Rattle.set_operator.specs.declared.best.Best.{Best}
@@ -118,19 +118,12 @@ reached_level x m v unit positive above below =
 lower_min : (x c m : ℤ) → x ≤ℤ c → x ≤ℤ m → int_min x c ≡ int_min x m
 lower_min x c m h k = omega (arith, ints, clamps)
 
-number_is : (a b : ℤ) → At a ≡ At b → a ≡ b
-number_is a b e = ap number_in e
-  where
-    number_in : Level → ℤ
-    number_in (At x) = x
-    number_in Empty = pos 0
-
 pub lesser_level : (p : Problem) (t : Levels) (s k : ℕ) (x c : ℤ) (best : Best) → IsProblem p → s < states p.game → IsLeader p t s k x best → IsCeilingOf p best c
     → (m : ℤ) → IsRowLevel p t s k (At m) → int_min x c ≡ int_min x m
 lesser_level p t s k x c best ok state leader ceiling m level =
     ⊎_elim
     (λ (h : IsLargestBelow p t s k (profile_count (counts p.game s)) best).
-    ap (λ z. int_min x z) (number_is c m (row_level_is_unique p t s k (At c) (At m) ok state (row_level_of p t s k best c h.best_of h.known h.largest ceiling) level)))
+    ap (λ z. int_min x z) (number_at c m (row_level_is_unique p t s k (At c) (At m) ok state (row_level_of p t s k best c h.best_of h.known h.largest ceiling) level)))
     (λ (h : ((x -ℤ pos 1) *ℤ (pos p.game.q *ℤ best.point.den)) <ℤ best.value).
     let positive : pos 0 <ℤ (pos p.game.q *ℤ best.point.den) = product_above_zero (pos p.game.q) best.point.den (positive_q (q_positive p.game ok.game)) leader.best_of.small.positive in
     let above : value p s best.profile k (point_of best.point) ≤ℤ (m *ℤ value_unit p (point_of best.point)) = level.0 best.profile (point_of best.point) leader.known leader.best_of.admissible in

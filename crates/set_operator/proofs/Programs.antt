@@ -5,13 +5,14 @@ use Rattle.std.specs.Int.RustNames.{unsigned_abs}
 use Rattle.std.proofs.lemmas.Bool.{cases_eq, cases_lt, eqb-true}
 use Rattle.std.proofs.lemmas.List.{get_or_default, get_or_append_left}
 use Rattle.std.proofs.Math.Seq.{get_or-append_seam}
-use Rattle.direction_set.specs.DirectionTable.{vector_at, negative, unit_vector, zero_vector}
+use Rattle.direction_set.specs.DirectionTable.{negative, unit_vector}
 use Rattle.game_model.specs.SelfGeneration.{part}
 use Rattle.level_table.specs.declared.level.Level.TheVariants.{At}
 use Rattle.level_table.specs.Problem.{Problem, IsProblem, direction_count, direction, discount_at, plus_axis, minus_axis}
 use Rattle.level_table.specs.Levels.{Levels, Table, IsSmall, levels_in}
 use Rattle.level_table.specs.Tables.{IsSmallTable}
 use Rattle.bound_laws.proofs.Places.{next_state}
+use Rattle.bound_laws.proofs.Directions.{direction_is}
 use Rattle.exact_algebra.proofs.Order.{abs_within}
 use Rattle.game_model.specs.Game.{states}
 use Rattle.lp_cert.specs.declared.rows.Row.{Row}
@@ -21,9 +22,6 @@ use Rattle.set_operator.specs.Boxes.{IsBoxOf, side_at}
 use Rattle.set_operator.specs.Program.{IsObjective, IsProgramTo}
 
 -- ---- directions
-pub direction_is : (p : Problem) (k : ℕ) → k < direction_count p → direction p k ≡ vector_at p.directions k
-direction_is p k within = get_or_default p.directions k [] zero_vector within
-
 pub direction_width : (p : Problem) (k : ℕ) → IsProblem p → k < direction_count p → length (direction p k) ≡ 3
 direction_width p k ok within = ap length (direction_is p k within) ∙ ok.directions.width k
 

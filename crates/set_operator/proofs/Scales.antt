@@ -2,21 +2,19 @@
 use Rattle.std.proofs.Common.{◌≡◌, ℕ, ◌+◌, ◌*◌, ◌/◌, ◌^◌, ◌<◌, ◌≤◌, [], ◌∷◌, refl, arith, lit<, ℤ, pos, ◌-ℤ◌, ◌*ℤ◌, to_z, of_z, FitsSigned}
 use Rattle.std.specs.Int.{w64}
 use Rattle.std.specs.Int.RustNames.{unsigned_abs}
-use Rattle.std.proofs.lemmas.Int.{fits_signed_from_abs, to_z-of_z, unsigned_abs-mul}
+use Rattle.std.proofs.lemmas.Int.{to_z-of_z, unsigned_abs-mul}
 use Rattle.std.proofs.Math.Nat.{div-le_self, mul-le-mul}
 use lib.Signed.{quot_z}
 use Rattle.exact_algebra.specs.Poly.{var, ◌⊖◌, ◌⊗◌}
 use Rattle.exact_algebra.proofs.Normal.{ring}
 use Rattle.exact_algebra.proofs.Order.{abs_difference, abs_product}
+use Rattle.exact_algebra.proofs.Fits.{fits64}
 
 abbrev pub W : ℤ → ℤ
 W x = to_z w64 (of_z w64 x)
 
-pub fits_in : (x : ℤ) (n : ℕ) → unsigned_abs x ≤ n → n < 2 ^ 63 → FitsSigned w64 x
-fits_in x n h l = fits_signed_from_abs w64 x (omega (arith, h, l))
-
 pub kept : (x : ℤ) (n : ℕ) → unsigned_abs x ≤ n → n < 2 ^ 63 → W x ≡ x
-kept x n h l = to_z-of_z w64 x (fits_in x n h l)
+kept x n h l = to_z-of_z w64 x (fits64 x n h l)
 
 -- a smaller factor
 pub fewer_times : (m n b : ℕ) (z : ℤ) → m ≤ n → unsigned_abs (pos n *ℤ z) ≤ b → unsigned_abs (pos m *ℤ z) ≤ b
@@ -42,13 +40,13 @@ difference_is : (k f x y w : ℤ) → IsGap k f x y w → W x -ℤ W y ≡ x -�
 difference_is k f x y w h = rw (kept x (2 ^ 26) h.x_small (lit< tt), kept y (2 ^ 26) h.y_small (lit< tt)) refl
 
 pub difference_fits : (k f x y w : ℤ) → IsGap k f x y w → FitsSigned w64 (W x -ℤ W y)
-difference_fits k f x y w h = rw (difference_is k f x y w h) (fits_in (x -ℤ y) (2 ^ 26 + 2 ^ 26) (difference_small k f x y w h) (lit< tt))
+difference_fits k f x y w h = rw (difference_is k f x y w h) (fits64 (x -ℤ y) (2 ^ 26 + 2 ^ 26) (difference_small k f x y w h) (lit< tt))
 
 product_is : (k f x y w : ℤ) → IsGap k f x y w → W f *ℤ W (W x -ℤ W y) ≡ f *ℤ (x -ℤ y)
 product_is k f x y w h = rw (difference_is k f x y w h, kept f (2 ^ 60) h.f_small (lit< tt), kept (x -ℤ y) (2 ^ 26 + 2 ^ 26) (difference_small k f x y w h) (lit< tt)) refl
 
 pub product_fits : (k f x y w : ℤ) → IsGap k f x y w → FitsSigned w64 (W f *ℤ W (W x -ℤ W y))
-product_fits k f x y w h = rw (product_is k f x y w h) (fits_in (f *ℤ (x -ℤ y)) (2 ^ 51) h.product_small (lit< tt))
+product_fits k f x y w h = rw (product_is k f x y w h) (fits64 (f *ℤ (x -ℤ y)) (2 ^ 51) h.product_small (lit< tt))
 
 gain_small : (k f x y w : ℤ) → IsGap k f x y w → unsigned_abs (k *ℤ (f *ℤ (x -ℤ y))) ≤ 2 ^ 10 * 2 ^ 51
 gain_small k f x y w h = abs_product k (f *ℤ (x -ℤ y)) (2 ^ 10) (2 ^ 51) h.k_small h.product_small
@@ -57,7 +55,7 @@ gain_is : (k f x y w : ℤ) → IsGap k f x y w → W k *ℤ W (W f *ℤ W (W x 
 gain_is k f x y w h = rw (product_is k f x y w h, kept k (2 ^ 10) h.k_small (lit< tt), kept (f *ℤ (x -ℤ y)) (2 ^ 51) h.product_small (lit< tt)) refl
 
 pub gain_fits : (k f x y w : ℤ) → IsGap k f x y w → FitsSigned w64 (W k *ℤ W (W f *ℤ W (W x -ℤ W y)))
-gain_fits k f x y w h = rw (gain_is k f x y w h) (fits_in (k *ℤ (f *ℤ (x -ℤ y))) (2 ^ 10 * 2 ^ 51) (gain_small k f x y w h) (lit< tt))
+gain_fits k f x y w h = rw (gain_is k f x y w h) (fits64 (k *ℤ (f *ℤ (x -ℤ y))) (2 ^ 10 * 2 ^ 51) (gain_small k f x y w h) (lit< tt))
 
 pub gap_small : (k f x y w : ℤ) → IsGap k f x y w → unsigned_abs (w -ℤ (k *ℤ (f *ℤ (x -ℤ y)))) ≤ 2 ^ 62
 gap_small k f x y w h =
@@ -68,7 +66,7 @@ gap_is : (k f x y w : ℤ) → IsGap k f x y w → W w -ℤ W (W k *ℤ W (W f *
 gap_is k f x y w h = rw (gain_is k f x y w h, kept w (2 ^ 50) h.w_small (lit< tt), kept (k *ℤ (f *ℤ (x -ℤ y))) (2 ^ 10 * 2 ^ 51) (gain_small k f x y w h) (lit< tt)) refl
 
 pub gap_fits : (k f x y w : ℤ) → IsGap k f x y w → FitsSigned w64 (W w -ℤ W (W k *ℤ W (W f *ℤ W (W x -ℤ W y))))
-gap_fits k f x y w h = rw (gap_is k f x y w h) (fits_in (w -ℤ (k *ℤ (f *ℤ (x -ℤ y)))) (2 ^ 62) (gap_small k f x y w h) (lit< tt))
+gap_fits k f x y w h = rw (gap_is k f x y w h) (fits64 (w -ℤ (k *ℤ (f *ℤ (x -ℤ y)))) (2 ^ 62) (gap_small k f x y w h) (lit< tt))
 
 -- the whole
 pub code_is : (k f x y w : ℤ) → IsGap k f x y w → W (W w -ℤ W (W k *ℤ W (W f *ℤ W (W x -ℤ W y)))) ≡ w -ℤ (k *ℤ (f *ℤ (x -ℤ y)))
@@ -101,7 +99,7 @@ scaled_is : (k b f x : ℤ) → IsStage k b f x → W (W b *ℤ W f) *ℤ W x �
 scaled_is k b f x h = rw (fine_is k b f x h, kept x (2 ^ 26) h.x_small (lit< tt)) refl
 
 pub scaled_fits : (k b f x : ℤ) → IsStage k b f x → FitsSigned w64 (W (W b *ℤ W f) *ℤ W x)
-scaled_fits k b f x h = rw (scaled_is k b f x h) (fits_in ((b *ℤ f) *ℤ x) (2 ^ 50) h.product_small (lit< tt))
+scaled_fits k b f x h = rw (scaled_is k b f x h) (fits64 ((b *ℤ f) *ℤ x) (2 ^ 50) h.product_small (lit< tt))
 
 stage_small : (k b f x : ℤ) → IsStage k b f x → unsigned_abs (k *ℤ ((b *ℤ f) *ℤ x)) ≤ 2 ^ 10 * 2 ^ 50
 stage_small k b f x h = abs_product k ((b *ℤ f) *ℤ x) (2 ^ 10) (2 ^ 50) h.k_small h.product_small
@@ -110,7 +108,7 @@ weighed_is : (k b f x : ℤ) → IsStage k b f x → W k *ℤ W (W (W b *ℤ W f
 weighed_is k b f x h = rw (scaled_is k b f x h, kept k (2 ^ 10) h.k_small (lit< tt), kept ((b *ℤ f) *ℤ x) (2 ^ 50) h.product_small (lit< tt)) refl
 
 pub weighed_fits : (k b f x : ℤ) → IsStage k b f x → FitsSigned w64 (W k *ℤ W (W (W b *ℤ W f) *ℤ W x))
-weighed_fits k b f x h = rw (weighed_is k b f x h) (fits_in (k *ℤ ((b *ℤ f) *ℤ x)) (2 ^ 10 * 2 ^ 50) (stage_small k b f x h) (lit< tt))
+weighed_fits k b f x h = rw (weighed_is k b f x h) (fits64 (k *ℤ ((b *ℤ f) *ℤ x)) (2 ^ 10 * 2 ^ 50) (stage_small k b f x h) (lit< tt))
 
 pub stage_is : (k b f x : ℤ) → IsStage k b f x → W (W k *ℤ W (W (W b *ℤ W f) *ℤ W x)) ≡ k *ℤ ((b *ℤ f) *ℤ x)
 stage_is k b f x h = rw (weighed_is k b f x h) (kept (k *ℤ ((b *ℤ f) *ℤ x)) (2 ^ 10 * 2 ^ 50) (stage_small k b f x h) (lit< tt))

@@ -9,14 +9,14 @@ use Rattle.std.proofs.lemmas.Bool.{cases_eq}
 use Rattle.exact_algebra.specs.Quotients.{IsCeiling}
 use Rattle.exact_algebra.specs.Poly.{var, lit, ◌⊗◌}
 use Rattle.exact_algebra.proofs.Normal.{ring}
-use Rattle.exact_algebra.proofs.Order.{abs_difference, abs_within, at_most_trans, at_most_below_trans, at_most_from_times, below_from_times, times_at_most, times_below}
+use Rattle.exact_algebra.proofs.Order.{abs_difference, abs_within, at_most_trans, at_most_below_trans, at_most_from_times, below_from_times, times_at_most, times_below, positive_at_least_zero}
+use Rattle.exact_algebra.proofs.Fits.{product_is}
 use Rattle.level_table.specs.Problem.{Problem}
 use Rattle.level_table.specs.Levels.{Levels}
 use Rattle.game_model.specs.Game.{counts, profile_count}
 use Rattle.level_table.specs.declared.level.Level.TheVariants.{At}
 use Rattle.level_table.specs.Operator.{Fractions, Admissible, HasAdmissible, IsFirstLargest, IsRowLevel, value, value_unit}
 use Rattle.pay_frac.specs.Ratio.{Ratio, IsLowest, Equals}
-use Rattle.level_table.proofs.Sizes.{product_is}
 use Rattle.set_operator.specs.declared.best.Best.{Best}
 use Rattle.level_table.specs.Reasons.{AreKnown}
 use Rattle.set_operator.specs.declared.boxes.ProfileBox.{ProfileBox}
@@ -30,14 +30,11 @@ use Rattle.set_operator.specs.Search.{IsBestOf, HasNoneAbove, IsCeilingOf, IsEar
 weak : (a b : ℤ) → a <ℤ b → a ≤ℤ b
 weak a b h = omega (arith, ints)
 
-not_negative : (a : ℤ) → pos 0 <ℤ a → pos 0 ≤ℤ a
-not_negative a h = omega (arith, ints)
-
 -- x/d is at most v/e, and v/e is at most w/f
 pub cross_trans : (x d v e w f : ℤ) → pos 0 <ℤ d → pos 0 <ℤ e → pos 0 <ℤ f → (x *ℤ e) ≤ℤ (v *ℤ d) → (v *ℤ f) ≤ℤ (w *ℤ e) → (x *ℤ f) ≤ℤ (w *ℤ d)
 cross_trans x d v e w f pd pe pf h k =
-    let a : (f *ℤ (x *ℤ e)) ≤ℤ (f *ℤ (v *ℤ d)) = times_at_most f (x *ℤ e) (v *ℤ d) (not_negative f pf) h in
-    let b : (d *ℤ (v *ℤ f)) ≤ℤ (d *ℤ (w *ℤ e)) = times_at_most d (v *ℤ f) (w *ℤ e) (not_negative d pd) k in
+    let a : (f *ℤ (x *ℤ e)) ≤ℤ (f *ℤ (v *ℤ d)) = times_at_most f (x *ℤ e) (v *ℤ d) (positive_at_least_zero f pf) h in
+    let b : (d *ℤ (v *ℤ f)) ≤ℤ (d *ℤ (w *ℤ e)) = times_at_most d (v *ℤ f) (w *ℤ e) (positive_at_least_zero d pd) k in
     let left : f *ℤ (x *ℤ e) ≡ e *ℤ (x *ℤ f) = ring (f ∷ x ∷ e ∷ []) (var 0 ⊗ (var 1 ⊗ var 2)) (var 2 ⊗ (var 1 ⊗ var 0)) refl in
     let mid : f *ℤ (v *ℤ d) ≡ d *ℤ (v *ℤ f) = ring (f ∷ v ∷ d ∷ []) (var 0 ⊗ (var 1 ⊗ var 2)) (var 2 ⊗ (var 1 ⊗ var 0)) refl in
     let right : d *ℤ (w *ℤ e) ≡ e *ℤ (w *ℤ d) = ring (d ∷ w ∷ e ∷ []) (var 0 ⊗ (var 1 ⊗ var 2)) (var 2 ⊗ (var 1 ⊗ var 0)) refl in
@@ -46,12 +43,12 @@ cross_trans x d v e w f pd pe pf h k =
 -- x/d is at most v/e, and v/e is less than w/f
 pub cross_below : (x d v e w f : ℤ) → pos 0 <ℤ d → pos 0 <ℤ e → pos 0 <ℤ f → (x *ℤ e) ≤ℤ (v *ℤ d) → (v *ℤ f) <ℤ (w *ℤ e) → (x *ℤ f) <ℤ (w *ℤ d)
 cross_below x d v e w f pd pe pf h k =
-    let a : (f *ℤ (x *ℤ e)) ≤ℤ (f *ℤ (v *ℤ d)) = times_at_most f (x *ℤ e) (v *ℤ d) (not_negative f pf) h in
+    let a : (f *ℤ (x *ℤ e)) ≤ℤ (f *ℤ (v *ℤ d)) = times_at_most f (x *ℤ e) (v *ℤ d) (positive_at_least_zero f pf) h in
     let b : (d *ℤ (v *ℤ f)) <ℤ (d *ℤ (w *ℤ e)) = times_below d (v *ℤ f) (w *ℤ e) pd k in
     let left : f *ℤ (x *ℤ e) ≡ e *ℤ (x *ℤ f) = ring (f ∷ x ∷ e ∷ []) (var 0 ⊗ (var 1 ⊗ var 2)) (var 2 ⊗ (var 1 ⊗ var 0)) refl in
     let mid : f *ℤ (v *ℤ d) ≡ d *ℤ (v *ℤ f) = ring (f ∷ v ∷ d ∷ []) (var 0 ⊗ (var 1 ⊗ var 2)) (var 2 ⊗ (var 1 ⊗ var 0)) refl in
     let right : d *ℤ (w *ℤ e) ≡ e *ℤ (w *ℤ d) = ring (d ∷ w ∷ e ∷ []) (var 0 ⊗ (var 1 ⊗ var 2)) (var 2 ⊗ (var 1 ⊗ var 0)) refl in
-    below_from_times e (x *ℤ f) (w *ℤ d) (not_negative e pe) (at_most_below_trans (e *ℤ (x *ℤ f)) (d *ℤ (v *ℤ f)) (e *ℤ (w *ℤ d)) (rw (← left, ← mid) a) (rw (← right) b))
+    below_from_times e (x *ℤ f) (w *ℤ d) (positive_at_least_zero e pe) (at_most_below_trans (e *ℤ (x *ℤ f)) (d *ℤ (v *ℤ f)) (e *ℤ (w *ℤ d)) (rw (← left, ← mid) a) (rw (← right) b))
 
 -- ---- one profile more
 pub so_far_skip : (p : Problem) (t : Levels) (s k n : ℕ) (before : Option Best) → IsLargestSoFar p t s k n before → ((y : Fractions) → Admissible p t s n y → ⊥) → IsLargestSoFar p t s k (n + 1) before

@@ -4,12 +4,13 @@ use Rattle.std.specs.Prelude.{ℤ, pos, ◌-ℤ◌, ◌≤ℤ◌, ◌<ℤ◌, Op
 use Rattle.std.specs.Int.RustNames.{unsigned_abs}
 use Rattle.std.proofs.lemmas.Int.{ints, by_lt_z}
 use Rattle.std.proofs.lemmas.Bool.{cases_eq}
-use Rattle.exact_algebra.proofs.Order.{below_at_most_trans}
+use Rattle.exact_algebra.proofs.Order.{below_at_most_trans, at_most_from_same}
 use Rattle.game_model.specs.Game.{counts, successor, reached, IsDeviation}
 use Rattle.level_table.specs.declared.level.Level.{Level}
 use Rattle.level_table.specs.declared.level.Level.TheVariants.{Empty, At}
 use Rattle.level_table.specs.Problem.{Problem, plus_axis, minus_axis, gain}
 use Rattle.level_table.specs.Levels.{Levels}
+use Rattle.level_table.proofs.Numbers.{number_at}
 use Rattle.set_operator.specs.Asked.{IsAsked, IsGiven, IsSideBelow}
 use Rattle.set_operator.specs.Boxes.{IsSide, IsSource}
 use Rattle.set_operator.specs.declared.boxes.Side.{Side}
@@ -18,19 +19,13 @@ abbrev number : Level → ℤ
 number Empty = pos 0
 number (At x) = x
 
-same_number : (x y : ℤ) → At x ≡ At y → x ≡ y
-same_number x y e = ap number e
-
-at_most_self : (x y : ℤ) → x ≡ y → x ≤ℤ y
-at_most_self x y e = omega (arith, ints, e)
-
 weaker : (x z : ℤ) → x <ℤ z → x ≤ℤ z
 weaker x z l = omega (arith, ints)
 
 -- two levels of one reached state ask the same
 same_asked : (p : Problem) (t : Levels) (s a i b c : ℕ) (y z : ℤ) → IsAsked p t s a i b z → b ≡ c → t (reached p.game s a i c) (minus_axis i) ≡ At y → z ≡ y -ℤ gain p s a i c
 same_asked p t s a i b c y z (x, here, is) same there =
-    let e : x ≡ y = same_number x y (sym here ∙ subst (λ m. t (reached p.game s a i m) (minus_axis i) ≡ At y) (sym same) there) in
+    let e : x ≡ y = number_at x y (sym here ∙ subst (λ m. t (reached p.game s a i m) (minus_axis i) ≡ At y) (sym same) there) in
     is ∙ ap (λ w. w -ℤ gain p s a i b) e ∙ ap (λ m. y -ℤ gain p s a i m) same
 
 -- ---- one strategy after the other
@@ -38,7 +33,7 @@ pub side_start : (p : Problem) (t : Levels) (s a i : ℕ) (u w : ℤ) → t (suc
     → IsSideBelow p t s a i 0 (record { upper = u; lower = w; by = None })
 side_start p t s a i u w plus minus u_small w_small = record {
   upper = plus;
-  level = λ v e. at_most_self w v (same_number w v (sym minus ∙ e));
+  level = λ v e. at_most_from_same w v (number_at w v (sym minus ∙ e));
   most = λ b x below d e. absurd (omega arith);
   given = minus;
   upper_small = u_small;
@@ -79,7 +74,7 @@ side_take p t s a i n side lower h dev new small less = record {
   upper = h.upper;
   level = λ w e. weaker lower w (below_at_most_trans lower side.lower w less (h.level w e));
   most = λ b x below d e. elim (cases_eq n b) [
-    | inl same ↦ at_most_self lower (x -ℤ gain p s a i b) (same_asked p t s a i n b x lower new same e)
+    | inl same ↦ at_most_from_same lower (x -ℤ gain p s a i b) (same_asked p t s a i n b x lower new same e)
     | inr other ↦ weaker lower (x -ℤ gain p s a i b) (below_at_most_trans lower side.lower (x -ℤ gain p s a i b) less (h.most b x (omega arith) d e))
   ];
   given = (

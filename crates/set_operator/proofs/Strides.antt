@@ -5,12 +5,11 @@ use Rattle.std.specs.Int.RustNames.{unsigned_abs}
 use Rattle.std.proofs.Math.Nat.{div-le_self, mul-le-mul}
 use Rattle.std.proofs.Math.Pow.{pow_mono}
 use Rattle.game_model.specs.Game.{DynamicGame, IsGame, IsState, IsDeviation, states, counts, profile_count, payoff_at, strategy_at, deviation_at}
-use Rattle.game_model.proofs.Lists.{profile_count_small}
 use Rattle.game_model.proofs.Profiles.{Moves, moves, moved}
 use Rattle.level_table.specs.Problem.{Problem, discount_at, fineness, IsProblem}
 use Rattle.level_table.specs.Tables.{HasSmallOpening}
 use Rattle.level_table.proofs.Sizes.{base_small, payoff_small}
-use Rattle.bound_laws.proofs.Places.{each_positive}
+use Rattle.bound_laws.proofs.Places.{each_positive, deviation_known}
 use Rattle.set_operator.specs.Asked.{gain_unit}
 use Rattle.set_operator.proofs.Openings.{payoff_scaled}
 use Rattle.set_operator.proofs.Scales.{IsGap, fewer_times, scaled_difference}
@@ -24,14 +23,6 @@ pub steps_of : (g : DynamicGame) (s a i b own stride : ℕ) → IsGame g → s <
     → own ≡ strategy_at g s a i → stride ≡ profile_count (take i (counts g s)) → (own * stride ≤ a) × (a - own * stride + b * stride ≡ deviation_at g s a i b)
 steps_of g s a i b own stride ok state profile player strategy own_is stride_is =
     moved (counts g s) a i b own stride (moves_of g s a i b ok state profile player strategy) own_is stride_is
-
-pub deviation_known : (g : DynamicGame) (s a i b : ℕ) → IsGame g → s < states g → a < profile_count (counts g s) → IsDeviation g s a i b → deviation_at g s a i b < profile_count (counts g s)
-deviation_known g s a i b ok state profile d = (moves_of g s a i b ok state profile d.player d.strategy).below
-
-pub few_profiles : (g : DynamicGame) (s : ℕ) → IsGame g → s < states g → profile_count (counts g s) ≤ 4096
-few_profiles g s ok state =
-    let st : IsState g s = ok.each_state s state in
-    profile_count_small (counts g s) (omega (arith, st.one_each, ok.three_players)) (λ j below. st.few_strategies j (omega (arith, st.one_each)))
 
 gap_of : (p : Problem) (s a i b : ℕ) (w : ℤ) → IsProblem p → HasSmallOpening p → s < states p.game → a < profile_count (counts p.game s) → IsDeviation p.game s a i b → unsigned_abs w ≤ 2 ^ 50
     → IsGap (pos (p.game.q - discount_at p i)) (pos (gain_unit p i)) (payoff_at p.game s (deviation_at p.game s a i b) i) (payoff_at p.game s a i) w

@@ -10,7 +10,7 @@ use Rattle.direction_set.specs.DirectionTable.{zero_vector}
 use Rattle.exact_algebra.specs.Poly.{var, lit, neg, ◌⊖◌, ◌⊗◌}
 use Rattle.exact_algebra.specs.Quotients.{IsCeiling}
 use Rattle.exact_algebra.proofs.Normal.{ring}
-use Rattle.exact_algebra.proofs.Order.{abs_product, abs_sum, abs_within, at_most_trans, times_at_most, below_at_most_trans, at_most_from_times, below_from_times, within_abs}
+use Rattle.exact_algebra.proofs.Order.{abs_product, abs_sum, abs_within, at_most_trans, times_at_most, below_at_most_trans, at_most_from_times, below_from_times, within_abs, positive_is}
 use Rattle.game_model.specs.Game.{states, counts, profile_count, payoff_at, successor}
 use Rattle.game_model.specs.SelfGeneration.{dot, part, sum_below}
 use Rattle.level_table.specs.declared.level.Level.{Level}
@@ -36,9 +36,6 @@ sum_small f b (suc n) h =
     let rest : unsigned_abs (sum_below f n) ≤ n * b = sum_small f b n (λ i below. h i (omega arith)) in
     let all : unsigned_abs (sum_below f n +ℤ f n) ≤ n * b + b = abs_sum (sum_below f n) (f n) (n * b) b rest (h n (omega arith)) in
     omega arith
-
-abs_of_positive : (d : ℤ) → pos 0 <ℤ d → d ≡ pos (unsigned_abs d)
-abs_of_positive d h = omega (arith, ints)
 
 direction_part : (p : Problem) (k i : ℕ) → IsProblem p → k < direction_count p → unsigned_abs (part (direction p k) i) ≤ 3
 direction_part p k i ok known = subst (λ v. unsigned_abs (part v i) ≤ 3) (get_or_default p.directions k zero_vector [] known) (ok.directions.part_small k i)
@@ -71,7 +68,7 @@ part_small : (p : Problem) (t : Levels) (s a i : ℕ) (y : Fractions) → IsProb
     → Admissible p t s a y → unsigned_abs (part y.numerators i) ≤ 2 ^ 50 * unsigned_abs y.denominator
 part_small p t s a i y ok small state profile player adm =
     let next : successor p.game s a < states p.game = next_state p.game s a ok.game state profile in
-    let d : y.denominator ≡ pos (unsigned_abs y.denominator) = abs_of_positive y.denominator adm.positive in
+    let d : y.denominator ≡ pos (unsigned_abs y.denominator) = positive_is y.denominator adm.positive in
     let up : part y.numerators i ≤ℤ (pos (2 ^ 50) *ℤ y.denominator) = rw (dot-plus_axis p i y.numerators ok player) at (plane_bound p t s a (plus_axis i) y small next (plus_axis_known p i ok player) adm) in
     let down : neg_ℤ (part y.numerators i) ≤ℤ (pos (2 ^ 50) *ℤ y.denominator) = rw (dot-minus_axis p i y.numerators ok player) at (plane_bound p t s a (minus_axis i) y small next (minus_axis_known p i ok player) adm) in
     within (part y.numerators i) (2 ^ 50) (unsigned_abs y.denominator)
@@ -135,7 +132,7 @@ ceiling_small q n v level positive small ceiling =
 
 pub level_small : (p : Problem) (d v level : ℤ) → 0 < p.game.q → pos 0 <ℤ d → unsigned_abs v ≤ (p.game.q * unsigned_abs d) * (9 * 2 ^ 50) → IsCeiling v (pos p.game.q *ℤ d) level → unsigned_abs level ≤ 2 ^ 62
 level_small p d v level some positive small ceiling =
-    let is : pos p.game.q *ℤ d ≡ pos (p.game.q * unsigned_abs d) = ap (λ z. pos p.game.q *ℤ z) (abs_of_positive d positive) in
+    let is : pos p.game.q *ℤ d ≡ pos (p.game.q * unsigned_abs d) = ap (λ z. pos p.game.q *ℤ z) (positive_is d positive) in
     let d_some : 1 ≤ unsigned_abs d = omega (arith, ints) in
     let unit : 1 ≤ p.game.q * unsigned_abs d = mul-le-mul some d_some in
     let low : unsigned_abs level ≤ 9 * 2 ^ 50 = ceiling_small (p.game.q * unsigned_abs d) (9 * 2 ^ 50) v level (omega arith) small (subst (λ z. IsCeiling v z level) is ceiling) in

@@ -1,28 +1,16 @@
 -- rows of a table by their numbers
-use Rattle.std.proofs.Common.{◌≡◌, ◌⊎◌, inl, inr, ⊎_elim, ℕ, ◌+◌, ◌*◌, ◌/◌, ◌%◌, ◌<◌, ◌≤◌, ◌^◌, length, sym, ap, ◌∙◌, subst, arith, ℤ}
-use Rattle.std.specs.Int.RustNames.{unsigned_abs}
+use Rattle.std.proofs.Common.{◌≡◌, ◌⊎◌, inl, inr, ⊎_elim, ℕ, ◌+◌, ◌*◌, ◌/◌, ◌%◌, ◌<◌, ◌≤◌, length, sym, ap, ◌∙◌, subst, arith}
 use Rattle.std.proofs.Math.Nat.{mod-lt}
 use Rattle.std.proofs.lemmas.Nat.{div-mul-add, mod-mul-add, div_below, div-add-mod', mul-add-lt}
-use Rattle.std.proofs.lemmas.Int.{to_z-of_z, fits_signed_from_abs}
 use Rattle.std.proofs.lemmas.Bool.{cases_lt, cases_eq}
-use mir.Syntax.{w64}
-use mir.Val.{to_z, of_z}
 use Rattle.game_model.specs.Game.{states}
-use Rattle.level_table.specs.declared.level.Level.TheVariants.{Empty, At}
+use Rattle.level_table.specs.declared.level.Level.TheVariants.{Empty}
 use Rattle.level_table.specs.Problem.{Problem, direction_count}
 use Rattle.level_table.specs.Levels.{Table, IsNumber, IsRow, IsSmall, levels_in, level_at}
 use Rattle.level_table.specs.Supported.{IsEven}
 use Rattle.level_table.specs.Tables.{IsSmallTable}
-use Rattle.level_table.proofs.Sizes.{abs_between}
 use Rattle.set_operator.specs.Prepared.{PreparedState}
 use Rattle.settle_test.specs.Verdicts.{IsReadyAt, direction_of, state_of}
-
-pub fits_small : (x : ℤ) → IsSmall (At x) → to_z w64 (of_z w64 x) ≡ x
-fits_small x a = to_z-of_z w64 x (fits_signed_from_abs w64 x (omega (arith, abs_between x (2 ^ 50) a.0 a.1)))
-
--- a number that is well within 64 bits
-pub fits_level : (x : ℤ) → unsigned_abs x ≤ 2 ^ 62 → to_z w64 (of_z w64 x) ≡ x
-fits_level x h = to_z-of_z w64 x (fits_signed_from_abs w64 x (omega (arith, h)))
 
 pub place_below : (p : Problem) (t : Table) (s k : ℕ) → IsSmallTable p t → IsRow p s k → s * t.directions + k < length t.levels
 place_below p t s k small row =

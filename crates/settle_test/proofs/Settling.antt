@@ -7,7 +7,7 @@ use Rattle.std.proofs.lemmas.Int.{ints, by_lt_z}
 use Rattle.std.proofs.lemmas.Nat.{div-mul-add, mod-mul-add}
 use Rattle.exact_algebra.specs.Poly.{var, ◌⊗◌}
 use Rattle.exact_algebra.proofs.Normal.{ring}
-use Rattle.exact_algebra.proofs.Order.{times_at_most, times_below, below_from_times, below_at_most_trans, at_most_below_trans, product_above_zero, product_at_least_zero}
+use Rattle.exact_algebra.proofs.Order.{times_at_most, times_below, below_from_times, below_at_most_trans, at_most_below_trans, product_above_zero, product_at_least_zero, times_swap}
 use Rattle.game_model.specs.Game.{counts, profile_count}
 use Rattle.level_table.specs.declared.level.Level.TheVariants.{Empty, At}
 use Rattle.level_table.specs.Problem.{Problem, direction_count, IsProblem}
@@ -15,8 +15,9 @@ use Rattle.level_table.specs.Levels.{Levels, Table, IsSmall, levels_in, level_at
 use Rattle.level_table.specs.Operator.{Admissible, Fractions, IsRowLevel, HasValueAbove, value, value_unit}
 use Rattle.level_table.specs.Supported.{IsEven, IsSupported}
 use Rattle.level_table.specs.Tables.{IsSmallTable}
+use Rattle.level_table.proofs.Numbers.{fits_small}
 use Rattle.bound_laws.proofs.Operator.{value_unit_positive}
-use Rattle.bound_laws.proofs.Order.{at_most_along, swap}
+use Rattle.bound_laws.proofs.Order.{at_most_along}
 use Rattle.set_operator.specs.Answers.{IsLevelAnswer}
 use Rattle.set_operator.specs.Boxes.{point_of}
 use Rattle.lp_core.specs.declared.Point.{Point}
@@ -29,7 +30,7 @@ use Rattle.set_operator.specs.declared.row.Verdict.TheVariants as verdicts
 use Rattle.pay_frac.specs.Ratio.{Ratio}
 use mir.Syntax.{w64}
 use mir.Val.{to_z, of_z}
-use Rattle.settle_test.proofs.Places.{fits_small, place_below, row_small}
+use Rattle.settle_test.proofs.Places.{place_below, row_small}
 
 -- no value is above a number that the row level isn't above
 pub none_above : (p : Problem) (t : Levels) (s k : ℕ) (m x : ℤ) → IsProblem p → IsRowLevel p t s k (At m) → m ≤ℤ x → HasValueAbove p t s k x → ⊥
@@ -38,7 +39,7 @@ none_above p t s k m x problem level h above =
     let positive : pos 0 <ℤ u = value_unit_positive p above.vector problem above.admissible.positive in
     let most : value p s above.profile k above.vector ≤ℤ (m *ℤ u) = level.0 above.profile above.vector above.known above.admissible in
     let under : (x *ℤ u) <ℤ (m *ℤ u) = below_at_most_trans (x *ℤ u) (value p s above.profile k above.vector) (m *ℤ u) above.above most in
-    let more : (m *ℤ u) ≤ℤ (x *ℤ u) = at_most_along (swap u m) (swap u x) (times_at_most u m x (omega (arith, ints)) h) in
+    let more : (m *ℤ u) ≤ℤ (x *ℤ u) = at_most_along (times_swap u m) (times_swap u x) (times_at_most u m x (omega (arith, ints)) h) in
     absurd (omega (arith, ints, under, more))
 
 -- a point whose value is at least that of another
@@ -51,7 +52,7 @@ reaches x m q vw dw vp dp q0 w0 p0 low above most =
     (ring (dw ∷ q ∷ dp ∷ n ∷ []) ((var 0 ⊗ (var 1 ⊗ var 2)) ⊗ var 3) (var 2 ⊗ (var 3 ⊗ (var 1 ⊗ var 0))) refl)
     (times_at_most (dw *ℤ (q *ℤ dp)) x n (product_at_least_zero dw (q *ℤ dp) (omega (arith, ints)) (omega (arith, ints))) low) in
     let second : (dp *ℤ (n *ℤ (q *ℤ dw))) <ℤ (dp *ℤ vw) = times_below dp (n *ℤ (q *ℤ dw)) vw p0 above in
-    let third : (dp *ℤ vw) ≤ℤ (dw *ℤ vp) = at_most_along (swap vw dp) (swap vp dw) most in
+    let third : (dp *ℤ vw) ≤ℤ (dw *ℤ vp) = at_most_along (times_swap vw dp) (times_swap vp dw) most in
     below_from_times dw (x *ℤ (q *ℤ dp)) vp (omega (arith, ints))
     (below_at_most_trans _ _ _ (at_most_below_trans _ _ _ first second) third)
 

@@ -1,7 +1,6 @@
 -- what a run says of its report, and that the report can be printed
-use Rattle.std.proofs.Common.{◌≡◌, ℕ, zero, suc, ◌*◌, ◌^◌, ◌<◌, ◌≤◌, List, [], ◌∷◌, length, All, Option, Some, None, sym, ◌∙◌, subst, arith, ℤ, pos, FitsSigned}
+use Rattle.std.proofs.Common.{◌≡◌, ℕ, zero, suc, ◌*◌, ◌^◌, ◌<◌, ◌≤◌, List, [], ◌∷◌, length, All, Some, None, sym, ◌∙◌, subst, arith, ℤ, pos, FitsSigned}
 use Rattle.std.specs.Int.RustNames.{unsigned_abs}
-use Rattle.std.specs.Option.{option_to_list}
 use Rattle.std.specs.Prelude.{slice_index_or}
 use Rattle.std.specs.Int.{w128}
 use Rattle.std.proofs.lemmas.Int.{ints, fits_signed_mul}
@@ -9,9 +8,7 @@ use Rattle.std.proofs.lemmas.List.Elements.{All-append}
 use Rattle.game_model.specs.Game.{DynamicGame, IsGame, states, unit_of}
 use Rattle.level_table.specs.Problem.{Problem, IsProblem, direction_count}
 use Rattle.level_table.specs.Levels.{Table, IsTableOf, opening_table}
-use Rattle.level_table.specs.Tables.{HasSmallOpening, IsOpening, IsWhole}
-use Rattle.level_table.proofs.Sizes.{abs_between, fineness_small}
-use Rattle.set_operator.specs.Answers.{IsSmallPoint}
+use Rattle.level_table.proofs.Sizes.{base_times_fineness_small}
 use Rattle.set_operator.specs.declared.row.Support.{Support}
 use Rattle.set_operator.specs.declared.row.Verdict.{Verdict}
 use Rattle.set_operator.specs.declared.row.Verdict.TheVariants.{Supported, Unsupported}
@@ -19,13 +16,14 @@ use Rattle.settle_test.specs.Verdicts.{IsVerdict, AreSupports, IsSupportOf, stat
 use Rattle.report_text.specs.ReportText.{IsPrintable, IsPrintableVerdict, IsFraction, rows_of}
 use Rattle.report_text.specs.declared.report.Report.{Report}
 use Rattle.sweep_run.specs.Runs.{IsRunFrom}
+use Rattle.exact_algebra.proofs.Order.{abs_within}
 use Rattle.solve_run.specs.Solved.{run_of}
 
 pub unit_fits : (g : DynamicGame) (grid : ℕ) → IsGame g → grid ≤ 30 → FitsSigned w128 (unit_of g grid)
 unit_fits g grid game few =
     fits_signed_mul w128 g.denominator (pos (g.base * 2 ^ grid)) (2 ^ 40) (2 ^ 60)
-    (abs_between g.denominator (2 ^ 40) (omega (arith, ints, game.denominator_positive)) game.denominator_small)
-    (fineness_small g grid game few) (omega arith)
+    (abs_within g.denominator (2 ^ 40) (omega (arith, ints, game.denominator_positive)) game.denominator_small)
+    (base_times_fineness_small g grid game few) (omega arith)
 
 all_of_none : (P : Support → Type 0) → All P []
 all_of_none P k d below = absurd (omega (arith, below))

@@ -1,5 +1,5 @@
 -- where a run ends
-use Rattle.std.proofs.Common.{Result, Ok, Err, None, List, [], inr, ◌^◌, ◌≡◌, ℕ, suc, ◌+◌, ◌*◌, ◌/◌, ◌<◌, ◌≤◌, length, refl, sym, ap, ◌∙◌, subst, arith, ℤ, pos, ◌+ℤ◌, ◌-ℤ◌, ◌*ℤ◌, ◌≤ℤ◌}
+use Rattle.std.proofs.Common.{Result, Ok, Err, None, List, [], inr, ◌≡◌, ℕ, suc, ◌+◌, ◌*◌, ◌/◌, ◌<◌, ◌≤◌, length, refl, sym, ap, ◌∙◌, subst, arith, ℤ, pos, ◌+ℤ◌, ◌-ℤ◌, ◌*ℤ◌, ◌≤ℤ◌}
 use Rattle.std.specs.Prelude.{IfOk, negsuc}
 use Rattle.std.proofs.Math.Nat.{mod-lt, div-add-mod, mul-le-mul}
 use Rattle.std.proofs.lemmas.Int.{ints}
@@ -8,20 +8,19 @@ use Rattle.game_model.specs.Game.{states}
 use Rattle.level_table.specs.Supported.{IsGreatest, IsSupported}
 use Rattle.level_table.specs.declared.level.Level.{Level}
 use Rattle.level_table.specs.declared.reason.Note.{Note}
-use Rattle.level_table.specs.Problem.{Problem, direction_count, opening_level, IsProblem}
-use Rattle.level_table.specs.Levels.{AtMost, IsBelow, IsNumber, IsRow, IsSmall, Levels, Table, levels_in, opening_table}
+use Rattle.level_table.specs.Problem.{Problem, direction_count, IsProblem}
+use Rattle.level_table.specs.Levels.{AtMost, IsBelow, IsNumber, IsRow, Levels, Table, levels_in, opening_table}
 use Rattle.level_table.specs.Operator.{IsRowLevel}
 use Rattle.level_table.specs.Iterates.{drop_of}
 use Rattle.level_table.specs.Start.{IsBetween, IsStart}
-use Rattle.level_table.specs.Tables.{HasSmallOpening, IsOpening, IsSmallTable, IsWhole}
-use Rattle.level_table.proofs.Sizes.{abs_between}
+use Rattle.level_table.specs.Tables.{IsOpening, IsSmallTable, IsWhole}
 use Rattle.bound_laws.specs.Falls.{most_drop}
 use Rattle.bound_laws.specs.Laws.{HasBounds}
 use Rattle.bound_laws.proofs.Bounding.{kept_bounds}
 use Rattle.bound_laws.proofs.Falls.{below_first_iterate, below_next_iterate, drop_at_most, drop_grows, no_drop_at_start, drop_rises, range_is_floor}
-use Rattle.bound_laws.proofs.Levels.{level_at_most_self}
-use Rattle.bound_laws.proofs.Notes.{notes_above_bound}
-use Rattle.bound_laws.proofs.Start.{opening_is_start}
+use Rattle.bound_laws.proofs.Levels.{level_at_most_self, level_at_most_from_same}
+use Rattle.bound_laws.proofs.Notes.{notes_above_bound, first_direction}
+use Rattle.bound_laws.proofs.Start.{opening_is_start, between_is_below}
 use Rattle.operator_laws.proofs.Existence.{iterate_exists, row_level_exists}
 use Rattle.set_operator.specs.declared.row.Verdict.{Verdict}
 use Rattle.set_operator.specs.declared.row.Verdict.TheVariants.{Supported, Unsupported}
@@ -30,12 +29,11 @@ use Rattle.settle_test.proofs.Places.{row_here, row_known}
 use Rattle.sweep_run.specs.Runs.{IsAfterSweeps, IsEnough, IsLastSweep, IsRunFrom, IsRunning, IsSupportedVerdict}
 use Rattle.sweep_run.specs.Sweeper.{IsRunOf, IsSettling, problem_in}
 use Rattle.worker_pass.specs.Clearings.{AreNamed, KeepsNotes}
-use Rattle.worker_pass.proofs.Naming.{number_is, some_direction}
+use Rattle.worker_pass.proofs.Naming.{number_is}
 use Rattle.sweep_run.specs.Sweeps.{IsRunTable, IsSound, IsSwept}
 use Rattle.sweep_run.specs.declared.run.Run.{Run}
 use Rattle.sweep_run.specs.declared.sweeper.Sweeper.{Sweeper}
 use Rattle.sweep_run.proofs.Naming.{named_rows, named_start}
-use Rattle.sweep_run.proofs.Rows.{at_most_from_same, range_below}
 use Rattle.sweep_run.proofs.Steps.{run_then, same_rows}
 
 -- a start is the table of a run
@@ -64,7 +62,7 @@ one_more_dropped p first old new before after slack sweeps row ok some sound bel
     let here : IsRow p s k = row_known p old row sound.table below in
     let found : (l : Level) × IsRowLevel p (levels_in old) s k l = row_level_exists p (levels_in old) s k ok here in
     let more : (drop_of p (opening_table p) (levels_in old) +ℤ pos 1) ≤ℤ drop_of p (opening_table p) (levels_in new) =
-    drop_rises p (opening_table p) (levels_in old) (levels_in new) s k fails.level slack found.0 ok sound.even swept.step.sound.even (range_is_floor p (levels_in old) sound.range) (range_below p (levels_in old) sound.range) swept.step.below here
+    drop_rises p (opening_table p) (levels_in old) (levels_in new) s k fails.level slack found.0 ok sound.even swept.step.sound.even (range_is_floor p (levels_in old) sound.range) (between_is_below p (levels_in old) sound.range) swept.step.below here
     (row_here p old row sound.table ∙ fails.here) (omega arith) fails.none found.1 (swept.passed (levels_in old) s k found.0 (λ s' k' row'. level_at_most_self (levels_in old s' k')) here found.1) in
     omega (arith, ints, more, so_far)
 
@@ -97,8 +95,8 @@ enough_settles : (p : Problem) (start : Levels) (budget sweeps : ℕ) (t : Table
 enough_settles p start budget sweeps t (Supported supports) sound last dropped enough = tt
 enough_settles p start budget sweeps t (Unsupported row level reached) sound last dropped enough =
     let some_state : 1 ≤ t.states = sound.table.whole.some_state in
-    let some_direction : 1 ≤ t.directions = sound.table.whole.some_direction in
-    let positive : 1 * 1 ≤ t.states * t.directions = mul-le-mul some_state some_direction in
+    let first_direction : 1 ≤ t.directions = sound.table.whole.first_direction in
+    let positive : 1 * 1 ≤ t.states * t.directions = mul-le-mul some_state first_direction in
     let rows : length t.levels ≡ states p.game * direction_count p = sound.table.whole.one_each ∙ ap (λ (n : ℕ). n * t.directions) sound.table.sizes.states_agree ∙ ap (λ (n : ℕ). states p.game * n) sound.table.sizes.directions_agree in
     let left : ℤ = most_drop p (opening_table p) -ℤ drop_of p (opening_table p) start in
     let few : pos sweeps ≤ℤ left =
@@ -154,13 +152,6 @@ running_start p t given slack ok is_start small = record {
   dropped = none_dropped (drop_of p (opening_table p) (levels_in t));
 }
 
--- the opening table
-pub opening_small : (p : Problem) (t : Table) → IsProblem p → IsOpening p t → HasSmallOpening p
-opening_small p t ok opening k dir =
-    let row : IsRow p 0 k = record { state = omega (arith, ok.game.some_state); direction = dir } in
-    let small : IsSmall (opening_table p 0 k) = subst IsSmall (opening.levels 0 k row) (opening.small (0 * t.directions + k)) in
-    abs_between (opening_level p k) (2 ^ 50) small.0 small.1
-
 pub opening_sound : (p : Problem) (t : Table) → IsProblem p → IsWhole t → IsOpening p t → IsSound p t
 opening_sound p t ok whole opening = record {
   table = record { whole = whole; sizes = opening.sizes; small = λ s k row. opening.small (s * t.directions + k) };
@@ -170,12 +161,12 @@ opening_sound p t ok whole opening = record {
 
 pub opening_named : (p : Problem) (t : Table) → IsProblem p → IsOpening p t → AreNamed p (levels_in t) []
 opening_named p t ok opening s known =
-    let number : IsNumber (levels_in t s 0) = subst IsNumber (sym (opening.levels s 0 (record { state = known; direction = some_direction p ok }))) tt in
+    let number : IsNumber (levels_in t s 0) = subst IsNumber (sym (opening.levels s 0 (record { state = known; direction = first_direction p ok }))) tt in
     (λ n. absurd (omega (arith, n.1)), λ e. absurd (number_is (levels_in t s 0) number e))
 
 pub running_opening : (p : Problem) (t : Table) (slack : ℕ) → IsProblem p → IsWhole t → IsOpening p t → IsRunning p (opening_table p) [] slack 0 t []
 running_opening p t slack ok whole opening =
-    let below : IsBelow p (levels_in t) (opening_table p) = λ s k row. at_most_from_same _ _ (opening.levels s k row) in
+    let below : IsBelow p (levels_in t) (opening_table p) = λ s k row. level_at_most_from_same _ _ (opening.levels s k row) in
     record {
       run = record {
         sound = opening_sound p t ok whole opening;

@@ -9,12 +9,13 @@ use Rattle.level_table.specs.Supported.{IsEven}
 use Rattle.level_table.specs.Notes.{Named}
 use Rattle.level_table.specs.Start.{IsStart}
 use Rattle.worker_pass.specs.Clearings.{AreNamed}
-use Rattle.worker_pass.proofs.Naming.{all_empty, number_is, some_direction}
+use Rattle.worker_pass.proofs.Naming.{all_empty, number_is}
+use Rattle.bound_laws.proofs.Notes.{first_direction}
 
 -- the notes of a start
 pub named_start : (p : Problem) (start : Levels) (notes : List Note) → IsProblem p → IsStart p start notes → AreNamed p start notes
 named_start p start notes ok h s known =
-    let row : IsRow p s 0 = record { state = known; direction = some_direction p ok } in
+    let row : IsRow p s 0 = record { state = known; direction = first_direction p ok } in
     (λ n. h.emptied s 0 row n, λ e. h.named s 0 row e)
 
 -- a row is Empty exactly where its state has a note
@@ -24,6 +25,6 @@ named_rows p t notes ok even h s k row = (to, λ n. all_empty p t s k ok even ro
     to : t s k ≡ Empty → Named notes s
     to e =
         ⊎_elim
-        (λ (empty : (j : ℕ) → j < direction_count p → t s j ≡ Empty). (h s row.state).1 (empty 0 (some_direction p ok)))
+        (λ (empty : (j : ℕ) → j < direction_count p → t s j ≡ Empty). (h s row.state).1 (empty 0 (first_direction p ok)))
         (λ (numbers : (j : ℕ) → j < direction_count p → IsNumber (t s j)). absurd (number_is (t s k) (numbers k row.direction) e))
         (even s row.state)

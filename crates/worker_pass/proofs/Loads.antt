@@ -1,6 +1,6 @@
 -- Rows that were loaded, one after the other.
 use Rattle.std.proofs.Common.{◌≡◌, ◌≢◌, inl, inr, ⊎_elim, ℕ, zero, suc, replicate, ◌+◌, ◌*◌, ◌<◌, length, true, false, Bool, List, set, get_or, refl, sym, ap, subst, ◌∙◌}
-use Rattle.std.proofs.lemmas.Bool.{cases_eq}
+use Rattle.std.proofs.lemmas.Bool.{cases_eq, false≢true}
 use Rattle.std.proofs.lemmas.List.{get_or-set_same, get_or-set_other}
 use Rattle.level_table.specs.declared.level.Level.{Level}
 use Rattle.level_table.specs.Levels.{Table, level_at}
@@ -56,11 +56,7 @@ marks_more f v v' t t' marks marks' s loaded is holds here r marked = elim (case
   | inr ne ↦ state_held f v v' t t' r loaded (holds r (sym (ap (λ (ms : List Bool). get_or ms r false) is ∙ get_or-set_other marks s r true false ne) ∙ marked))
 ]
 
--- at first no state has a mark
-no_mark : false ≡ true → ⊥
-no_mark h = absurd (cc)
-
 pub unmarked_none : (n s : ℕ) → get_or (replicate n false) s false ≡ true → ⊥
-unmarked_none zero s e = no_mark e
-unmarked_none (suc n) zero e = no_mark e
+unmarked_none zero s e = false≢true e
+unmarked_none (suc n) zero e = false≢true e
 unmarked_none (suc n) (suc s) e = unmarked_none n s e

@@ -13,8 +13,9 @@ use Rattle.level_table.specs.Levels.{Levels, IsNumber, AtMost}
 use Rattle.level_table.specs.Supported.{IsEven}
 use Rattle.level_table.specs.Notes.{IsNote, IsReason, Named, levels_of, no_note}
 use Rattle.level_table.specs.Reasons.{IsKnown, IsNoteOver, IsReasonOver, reason_at}
-use Rattle.bound_laws.proofs.Notes.{noted}
+use Rattle.bound_laws.proofs.Notes.{noted, first_direction}
 use Rattle.bound_laws.proofs.Places.{next_state, reached_state}
+use Rattle.schedule_core.proofs.Events.{named_more}
 use Rattle.worker_pass.specs.Clearings.{AreNamed, KeepsNotes}
 
 pub number_is : (l : Level) → IsNumber l → l ≡ Empty → ⊥
@@ -25,9 +26,6 @@ empty_from_at_most Empty h = refl
 empty_from_at_most (At x) h = absurd h
 
 -- ---- one note more
-pub named_old : (notes : List Note) (n : Note) (u : ℕ) → Named notes u → Named (notes ++ n ∷ []) u
-named_old notes n u (l, below, e) = (l, omega (arith, below, length_push notes n), ap (λ (m : Note). m.state) (get_or_append_left notes (n ∷ []) no_note l below) ∙ e)
-
 pub named_new : (notes : List Note) (n : Note) → Named (notes ++ n ∷ []) n.state
 named_new notes n = (length notes, omega (arith, length_push notes n), ap (λ (m : Note). m.state) (get_or_push notes n no_note (length notes) refl))
 
@@ -41,25 +39,22 @@ named_split notes n u (l, below, e) =
     (cases_lt l (length notes))
 
 -- ---- notes beside a table
-pub some_direction : (p : Problem) → IsProblem p → 0 < direction_count p
-some_direction p ok = omega (arith, ok.directions.has_axes, ok.game.two_players)
-
 pub all_empty : (p : Problem) (t : Levels) (s k : ℕ) → IsProblem p → IsEven p t → s < states p.game → t s 0 ≡ Empty → k < direction_count p → t s k ≡ Empty
 all_empty p t s k ok even known e dir =
     ⊎_elim
     (λ (empty : (k : ℕ) → k < direction_count p → t s k ≡ Empty). empty k dir)
-    (λ (numbers : (k : ℕ) → k < direction_count p → IsNumber (t s k)). absurd (number_is (t s 0) (numbers 0 (some_direction p ok)) e))
+    (λ (numbers : (k : ℕ) → k < direction_count p → IsNumber (t s k)). absurd (number_is (t s 0) (numbers 0 (first_direction p ok)) e))
     (even s known)
 
 unknown_named : (p : Problem) (t : Levels) (notes : List Note) (u : ℕ) → IsProblem p → IsEven p t → AreNamed p t notes → u < states p.game → (IsKnown p t u → ⊥) → Named notes u
 unknown_named p t notes u ok even h known none =
     ⊎_elim
-    (λ (empty : (k : ℕ) → k < direction_count p → t u k ≡ Empty). (h u known).1 (empty 0 (some_direction p ok)))
+    (λ (empty : (k : ℕ) → k < direction_count p → t u k ≡ Empty). (h u known).1 (empty 0 (first_direction p ok)))
     (λ (numbers : (k : ℕ) → k < direction_count p → IsNumber (t u k)). absurd (none numbers))
     (even u known)
 
 known_not_named : (p : Problem) (t : Levels) (notes : List Note) (u : ℕ) → IsProblem p → AreNamed p t notes → u < states p.game → IsKnown p t u → Named notes u → ⊥
-known_not_named p t notes u ok h known numbers named = number_is (t u 0) (numbers 0 (some_direction p ok)) ((h u known).0 named)
+known_not_named p t notes u ok h known numbers named = number_is (t u 0) (numbers 0 (first_direction p ok)) ((h u known).0 named)
 
 -- a reason over a table is one beside the notes of its empty states
 reason_from : (p : Problem) (t : Levels) (notes : List Note) (s a : ℕ) (r : Reason) → IsProblem p → IsEven p t → AreNamed p t notes → s < states p.game → a < profile_count (counts p.game s)
@@ -113,5 +108,5 @@ named_cleared p t v notes s note h state is cleared others u known = (to, from)
     from e =
         ⊎_elim
         (λ (same : u ≡ s). subst (Named (notes ++ note ∷ [])) (is ∙ sym same) (named_new notes note))
-        (λ (ne : u ≡ s → ⊥). named_old notes note u ((h u known).1 (sym (others u ne) ∙ e)))
+        (λ (ne : u ≡ s → ⊥). named_more notes note u ((h u known).1 (sym (others u ne) ∙ e)))
         (cases_eq u s)

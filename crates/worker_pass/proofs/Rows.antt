@@ -1,23 +1,21 @@
 -- What an update leaves.
-use Rattle.std.proofs.Common.{◌≡◌, ◌≢◌, ◌⊎◌, inl, inr, ℕ, ◌+◌, ◌*◌, ◌/◌, ◌%◌, ◌^◌, ◌<◌, ◌≤◌, ◌≤ℤ◌, length, refl, sym, ap, subst, ◌∙◌, arith, w64, Option, Some}
+use Rattle.std.proofs.Common.{◌≡◌, ◌≢◌, ◌⊎◌, inl, inr, ℕ, ◌+◌, ◌*◌, ◌/◌, ◌%◌, ◌<◌, ◌≤◌, ◌≤ℤ◌, length, refl, sym, ap, subst, ◌∙◌, arith, w64, Option, Some}
 use Rattle.std.specs.Prelude.{ℤ, ◌<ℤ◌}
 use Rattle.std.specs.Int.{int_min}
-use Rattle.std.specs.Int.RustNames.{unsigned_abs}
-use Rattle.std.proofs.lemmas.Int.{ints, clamps, to_z-of_z, fits_signed_from_abs}
+use Rattle.std.proofs.lemmas.Int.{ints, clamps}
 use mir.Val.{to_z, of_z}
 use Rattle.std.proofs.lemmas.Bool.{cases_eq}
 use Rattle.std.proofs.lemmas.List.{get_or-set_same, get_or-set_other}
-use Rattle.game_model.specs.Game.{DynamicGame, IsGame, IsState, IsDeviation, counts, profile_count, successor, deviation_at, states}
-use Rattle.game_model.proofs.Profiles.{Moves, moves}
+use Rattle.game_model.specs.Game.{counts, profile_count, successor, deviation_at, states}
 use Rattle.level_table.specs.declared.level.Level.{Level}
 use Rattle.level_table.specs.declared.level.Level.TheVariants.{Empty, At}
 use Rattle.level_table.specs.Problem.{Problem, IsProblem}
 use Rattle.level_table.specs.Levels.{Levels, Table, AtMost, IsBelow, IsNumber, IsRow, IsSmall, level_at, levels_in, lesser}
 use Rattle.level_table.specs.Operator.{IsRowLevel}
-use Rattle.level_table.proofs.Sizes.{abs_between}
-use Rattle.bound_laws.proofs.Levels.{level_at_most_self, level_at_most_trans}
+use Rattle.level_table.proofs.Numbers.{fits_small}
+use Rattle.bound_laws.proofs.Levels.{level_at_most_trans, level_at_most_from_same}
 use Rattle.bound_laws.proofs.Operator.{row_levels_grow}
-use Rattle.bound_laws.proofs.Places.{each_positive}
+use Rattle.bound_laws.proofs.Places.{deviation_known}
 use Rattle.level_board.proofs.Moments.{fallen_trans}
 use Rattle.operator_laws.specs.Successors.{AgreeAfter}
 use Rattle.operator_laws.proofs.Existence.{row_level_exists}
@@ -35,12 +33,6 @@ use Rattle.worker_pass.specs.declared.updating.UpdateNote.TheVariants as notes
 use Rattle.worker_pass.proofs.Falling.{fallen_self, fallen_same}
 
 -- ---- a row level reads only what follows
-deviation_known : (g : DynamicGame) (s a i b : ℕ) → IsGame g → s < states g → a < profile_count (counts g s) → IsDeviation g s a i b → deviation_at g s a i b < profile_count (counts g s)
-deviation_known g s a i b ok state profile d =
-    let st : IsState g s = ok.each_state s state in
-    let m : Moves (counts g s) a i b = moves (counts g s) a i b (each_positive g s ok state) profile (omega (arith, st.one_each, d.player)) d.strategy in
-    m.below
-
 agree_after : (f : Frame) (t v : Table) (s : ℕ) → IsFrame f → s < states f.problem.game → t.directions ≡ f.start.directions → v.directions ≡ f.start.directions → HoldsAfter f t v s
     → AgreeAfter f.problem (levels_in t) (levels_in v) s
 agree_after f t v s ok state t_same v_same h a k profile dir = (at a profile, λ i b d. at (deviation_at f.problem.game s a i b) (deviation_known f.problem.game s a i b ok.problem.game state profile d))
@@ -67,9 +59,6 @@ lowers_seen f t v v' row l x is new back fallen = (is, back, fallen, λ r ne. ap
 -- a level that isn't above the row level stays
 pub stays_seen : (f : Frame) (t v : Table) (row : ℕ) (x m : ℤ) → IsRowLevelOf f t row (At m) → level_at v row ≡ At x → x ≤ℤ m → IsLowering f t v v row (notes.Lowered m)
 stays_seen f t v row x m is here most = (is, subst (λ (l : Level). AtMost l (At m)) (sym here) most, fallen_self v, λ r ne. refl)
-
-pub fits_back : (x : ℤ) → unsigned_abs x ≤ 2 ^ 62 → to_z w64 (of_z w64 x) ≡ x
-fits_back x h = to_z-of_z w64 x (fits_signed_from_abs w64 x (omega (arith, h)))
 
 -- ---- the lesser of a level and the row level
 -- it is less only where it is the row level
@@ -98,15 +87,12 @@ row_level_above p t s k x found (ok, row) (alive, known, least) most = cases lev
     cases (At m) here = let e = least m here in (m, here, omega (arith, ints, clamps, e, most))
 
 -- ---- the whole update
-at_most_same : (l m : Level) → l ≡ m → AtMost l m
-at_most_same l m e = subst (λ (n : Level). AtMost l n) e (level_at_most_self l)
-
 pub updated_empty : (f : Frame) (v v' t t' : Table) (row : ℕ) → IsLoaded v v' t t' → level_at t' row ≡ level_at v' row → ((r : ℕ) → r ≢ row → level_at v' r ≡ level_at v r) → level_at t' row ≡ Empty
     → IsUpdated f v v' t' row notes.WasEmpty
 updated_empty f v v' t t' row loaded here others empty = record {
   fallen = loaded.fallen;
   loaded = subst (λ (l : Level). AtMost l (level_at v row)) (sym here) (loaded.fallen.fell row);
-  lowered = at_most_same _ _ (sym here);
+  lowered = level_at_most_from_same _ _ (sym here);
   held = λ number. absurd (subst IsNumber empty number);
   others = λ r. elim (cases_eq r row) [ inl e ↦ inr (inl e) | inr ne ↦ inl (others r ne) ];
   answer = (empty, sym here ∙ empty);
@@ -192,9 +178,6 @@ lesser_here p q t u s s' k k' x z r a b c d e h = subst (λ (X : Type 0). X) (λ
 
 pub answer_here : (p q : Problem) (t u : Table) (s s' k k' : ℕ) (r : RowAnswer) → q ≡ p → u ≡ t → s' ≡ s → k' ≡ k → IsRowAnswer q (levels_in u) s' k' r → IsRowAnswer p (levels_in t) s k r
 answer_here p q t u s s' k k' r a b c d h = subst (λ (X : Type 0). X) (λ i. IsRowAnswer (a i) (levels_in (b i)) (c i) (d i) r) h
-
-pub fits_small : (x : ℤ) → IsSmall (At x) → to_z w64 (of_z w64 x) ≡ x
-fits_small x a = to_z-of_z w64 x (fits_signed_from_abs w64 x (omega (arith, abs_between x (2 ^ 50) a.0 a.1)))
 
 lesser_small : (x m y : ℤ) → IsSmall (At x) → IsSmall (At m) → y ≡ int_min x m → IsSmall (At y)
 lesser_small x m y a b e = (omega (arith, ints, clamps, a.0, b.0, e), omega (arith, ints, clamps, a.1, b.1, e))

@@ -17,12 +17,13 @@ use Rattle.level_table.specs.Supported.{IsEven}
 use Rattle.bound_laws.specs.Laws.{KeepsSupported}
 use Rattle.bound_laws.proofs.Levels.{level_at_most_trans}
 use Rattle.bound_laws.proofs.Operator.{admissible_grows}
+use Rattle.bound_laws.proofs.Notes.{first_direction}
 use Rattle.level_board.specs.Board.{BoardId, OwnerView}
 use Rattle.schedule_core.specs.Frame.{Frame, IsFallen, IsFrame, IsSeen, NamedRow, NamesEmpty}
 use Rattle.schedule_core.proofs.Levels.{by_row, row_of, seen_is_kept}
 use Rattle.worker_pass.specs.Clearings.{AreCleared, AreNamed, IsGoneThrough}
 use Rattle.worker_pass.specs.Sweeps.{HoldsButFirst, IsCleared}
-use Rattle.worker_pass.proofs.Naming.{all_empty, empty_from_at_most, named_split, number_is, some_direction}
+use Rattle.worker_pass.proofs.Naming.{all_empty, empty_from_at_most, named_split, number_is}
 
 pub empty_fallen : (t u : Table) (r : ℕ) → IsFallen t u → level_at t r ≡ Empty → level_at u r ≡ Empty
 empty_fallen t u r h e = empty_from_at_most (level_at u r) (subst (AtMost (level_at u r)) e (h.fell r))
@@ -57,7 +58,7 @@ empty_at : (f : Frame) (notes : List Note) (v : Table) → AreMarkedOff f notes 
 empty_at f notes v h = by_row f v (λ s k l. Named notes s → l ≡ Empty) h.frame h.directions_same h.cleared
 
 first_row : (f : Frame) → IsFrame f → (s : ℕ) → s < states f.problem.game → IsRow f.problem s 0
-first_row f ok s known = record { state = known; direction = some_direction f.problem ok.problem }
+first_row f ok s known = record { state = known; direction = first_direction f.problem ok.problem }
 
 pub is_even : (f : Frame) (notes : List Note) (v : Table) → AreMarkedOff f notes v → IsEven f.problem (levels_in v)
 is_even f notes v h s known = by_first (empty_or_number (levels_in v s 0))
@@ -83,7 +84,7 @@ cleared_more_state f notes notes' note v v' s ok is state fell cleared here r kn
   | inl old ↦ empty_fallen v v' r fell (cleared r known old)
   | inr e ↦
       let d = f.start.directions in
-      let dir : r % d < d = mod-lt r (omega (arith, ok.whole.some_direction)) in
+      let dir : r % d < d = mod-lt r (omega (arith, ok.whole.first_direction)) in
       let at : s ≡ r / d = sym state ∙ e in
       subst (λ (n : ℕ). level_at v' n ≡ Empty) (row_of f r) (subst (λ (m : ℕ). level_at v' (m * d + r % d) ≡ Empty) at (here (r % d) dir))
 ]

@@ -1,6 +1,6 @@
 -- Rows that were passed, and their marks.
 use Rattle.std.proofs.Common.{◌≡◌, inl, inr, ℕ, ◌/◌, ◌<◌, List, get_or, set, Bool, true, false, sym, ap, subst, ◌∙◌}
-use Rattle.std.proofs.lemmas.Bool.{cases_eq}
+use Rattle.std.proofs.lemmas.Bool.{cases_eq, false≢true}
 use Rattle.std.proofs.lemmas.List.{get_or-set_other}
 use Rattle.level_table.specs.Levels.{Levels, Table, IsBelow, levels_in}
 use Rattle.bound_laws.proofs.Levels.{level_at_most_trans}
@@ -19,9 +19,6 @@ passed_fallen f above t u r ok known fallen passed l level = elim (passed l leve
   | inr dead ↦ inr (λ a y profile adm. dead a y profile (admissible_grows f.problem (levels_in u) (levels_in t) (r / f.start.directions) a y ok.problem (below_rows f.problem t u fallen) (row_known f r ok known).state profile adm))
 ]
 
-no_mark : false ≡ true → ⊥
-no_mark h = absurd (cc)
-
 -- one row more is marked
 pub marks_more : (f : Frame) (above : Levels) (w w' : Worker) (row : ℕ) → IsFrame f → IsFallen w.pass.seen w'.pass.seen
     → w'.done ≡ set w.done row true → IsPassedRow f above w'.pass.seen row → Marks f above w → Marks f above w'
@@ -34,7 +31,7 @@ marks_more f above w w' row ok fallen done here marks r known marked = elim (cas
 pub did_nothing : (f : Frame) (w w' : Worker) → w'.pass.seen ≡ w.pass.seen → ((r : ℕ) → get_or w'.done r false ≡ false) → Did f w w'
 did_nothing f w w' same none = record {
   fallen = fallen_same w.pass.seen w'.pass.seen same;
-  marks = λ above below r known marked. absurd (no_mark (sym (none r) ∙ marked));
+  marks = λ above below r known marked. absurd (false≢true (sym (none r) ∙ marked));
 }
 
 pub did_drawn : (f : Frame) (w w1 w2 : Worker) → w2.pass.seen ≡ w1.pass.seen → w2.done ≡ w1.done → Did f w w1 → Did f w w2

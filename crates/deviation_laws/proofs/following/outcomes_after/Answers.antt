@@ -2,8 +2,9 @@ use Rattle.std.proofs.Common.{◌≡◌, ◌∙◌, ap, sym, subst, arith, get_o
 use Rattle.game_model.specs.Game.{IsGame}
 use Rattle.game_model.specs.SelfGeneration.{Entry, IsGenerated, entry_at, punishment}
 use Rattle.selfgen_check.specs.Promises.{correspondence_of}
+use Rattle.selfgen_check.proofs.Profiles.{one_each}
 use Rattle.deviation_laws.specs.Plans.{outcomes_after}
-use Rattle.deviation_laws.proofs.Averages.{own_read, one_each, follows, outcomes_own, outcomes_other}
+use Rattle.deviation_laws.proofs.Averages.{own_read, follows, outcomes_own, outcomes_other}
 use Rattle.deviation_laws.proofs.following.outcomes_after.Goals as goal
 
 pub returns-then-strategy-get-clause-outcomes : goal.returns-then-strategy-get-clause-outcomes

@@ -1,7 +1,7 @@
 use Rattle.std.proofs.Common.{◌≡◌, ◌∙◌, refl}
 use Rattle.game_model.specs.SelfGeneration.{IsGenerated, entry_at, profile_of}
 use Rattle.selfgen_check.specs.Promises.{correspondence_of}
-use Rattle.deviation_laws.proofs.Averages.{number_known}
+use Rattle.selfgen_check.proofs.Profiles.{number_known}
 use Rattle.deviation_laws.proofs.following.profile_after.Goals as goal
 
 pub deviation-requires-clause-profile : goal.deviation-requires-clause-profile

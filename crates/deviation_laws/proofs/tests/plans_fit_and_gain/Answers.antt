@@ -1,6 +1,6 @@
 use Rattle.std.proofs.Common.{sym, subst}
 use Rattle.game_model.specs.Parts.{KeepLimits}
-use Rattle.selfgen_check.proofs.Dilemma.{dilemma_keeps_limits}
+use Rattle.game_model.proofs.Dilemma.{dilemma_keeps_limits}
 use Rattle.deviation_laws.proofs.tests.plans_fit_and_gain.Goals as goal
 
 pub build-requires : goal.build-requires

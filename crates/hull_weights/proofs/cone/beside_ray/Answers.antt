@@ -1,4 +1,5 @@
-use Rattle.hull_weights.proofs.Sizes.{is_above, is_below, not_above, not_below, weight_above, weight_below, at_least, straight}
+use Rattle.exact_algebra.proofs.Order.{positive_at_least_zero}
+use Rattle.hull_weights.proofs.Sizes.{is_above, is_below, not_above, not_below, weight_above, weight_below, straight}
 use Rattle.hull_weights.proofs.Cones.{ray_left, ray_right}
 use Rattle.hull_weights.proofs.Balances.{ray_balance}
 use Rattle.hull_weights.proofs.cone.beside_ray.Goals as goal
@@ -27,4 +28,4 @@ returns c =
     (weight_below _ front.result _ c.unsigned_abs.ensures.value front.ensures.value front.ensures.small
     (not_above front.result _ front.ensures.value front.ensures.small c.if-front-gt0.false))
     (weight_above _ length.result _ c.unsigned_abs-2.ensures.value length.ensures.value length.ensures.small
-    (at_least _ c.requires.proper))
+    (positive_at_least_zero _ c.requires.proper))

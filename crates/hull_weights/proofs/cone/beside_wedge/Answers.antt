@@ -1,4 +1,5 @@
-use Rattle.hull_weights.proofs.Sizes.{is_above, is_below, not_above, not_below, weight_above, weight_below, at_least, at_most, apart_right, apart_left}
+use Rattle.exact_algebra.proofs.Order.{positive_at_least_zero}
+use Rattle.hull_weights.proofs.Sizes.{is_above, is_below, not_above, not_below, weight_above, weight_below, at_most, apart_right, apart_left}
 use Rattle.hull_weights.proofs.Cones.{wedge_left, wedge_right, wedge_keeps}
 use Rattle.hull_weights.proofs.Balances.{wedge_balance}
 use Rattle.hull_weights.proofs.cone.beside_wedge.Goals as goal
@@ -18,7 +19,7 @@ returns-else-from_left-gt0 c =
     let right_above = is_above from_right.result _ from_right.ensures.value from_right.ensures.small c.if-from_right-gt0.true in
     let left_most = not_above from_left.result _ from_left.ensures.value from_left.ensures.small c.if-from_left-gt0.false in
     wedge_keeps c.args.right c.args.left c.args.arrow c.requires.proper c.requires.apart
-    (at_least _ right_above) left_most (apart_right _ _ left_most right_above)
+    (positive_at_least_zero _ right_above) left_most (apart_right _ _ left_most right_above)
 
 pub returns-then-from_right-lt0 : goal.returns-then-from_right-lt0
 returns-then-from_right-lt0 c =
@@ -49,4 +50,4 @@ returns-else-from_left-lt0 c =
     (weight_below _ from_right.result _ c.unsigned_abs-else-from_left-lt0.ensures.value from_right.ensures.value from_right.ensures.small
     (not_above from_right.result _ from_right.ensures.value from_right.ensures.small c.if-from_right-gt0.false))
     (weight_above _ whole.result _ c.unsigned_abs-else-from_left-lt0-2.ensures.value whole.ensures.value whole.ensures.small
-    (at_least _ c.requires.proper))
+    (positive_at_least_zero _ c.requires.proper))

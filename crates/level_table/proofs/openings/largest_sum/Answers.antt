@@ -2,8 +2,8 @@ use Rattle.std.proofs.Common.{◌≡◌, ◌+◌, ◌*◌, ◌^◌, ◌≤◌, �
 use Rattle.std.specs.Int.{w32, w64}
 use Rattle.std.specs.Int.RustNames.{unsigned_abs}
 use Rattle.std.proofs.lemmas.Int.{to_z-of_z, fits_signed_from_abs}
+use Rattle.exact_algebra.proofs.Order.{abs_sum}
 use Rattle.level_table.specs.Problem.{largest_payoff}
-use Rattle.level_table.proofs.Sizes.{abs_sum}
 use Rattle.level_table.proofs.OpeningLemmas.{sum_more}
 use Rattle.level_table.proofs.openings.largest_sum.Goals as goal
 

@@ -2,7 +2,9 @@
 use Rattle.std.proofs.Common.{◌^◌, ◌≤◌, lit<, ℤ, ◌*ℤ◌, FitsSigned, w64}
 use Rattle.std.specs.Int.RustNames.{unsigned_abs}
 use Rattle.std.proofs.Common.{rules, arith, ap, ◌∙◌}
-use Rattle.level_table.proofs.Sizes.{payoff_small, product_fits, product_is, abs_product}
+use Rattle.exact_algebra.proofs.Order.{abs_product}
+use Rattle.exact_algebra.proofs.Fits.{product_fits, product_is}
+use Rattle.level_table.proofs.Sizes.{payoff_small}
 use Rattle.level_table.proofs.openings.payoff_times.Goals as goal
 
 pub overflow_mul-result : goal.overflow_mul-result

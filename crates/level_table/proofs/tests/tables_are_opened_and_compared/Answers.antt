@@ -1,6 +1,6 @@
 use Rattle.std.proofs.Common.{sym, subst}
 use Rattle.game_model.specs.Parts.{KeepLimits}
-use Rattle.level_table.proofs.WorkedRows.{dilemma_keeps_limits}
+use Rattle.game_model.proofs.Dilemma.{dilemma_keeps_limits}
 use Rattle.level_table.proofs.tests.tables_are_opened_and_compared.Goals as goal
 
 pub build-requires : goal.build-requires

@@ -1,7 +1,7 @@
 use Rattle.std.proofs.Common.{ℕ, subst, lit≤}
 use Rattle.direction_set.specs.DirectionTable.{IsDirectionTable}
 use Rattle.level_table.specs.Problem.{problem_of}
-use Rattle.operator_search.proofs.SmallGames.{small_opening}
+use Rattle.level_table.proofs.Numbers.{small_opening}
 use Rattle.operator_search.proofs.tests.opened.Goals as goal
 
 pub returns-clause-opening : goal.returns-clause-opening

@@ -1,6 +1,6 @@
 use Rattle.std.proofs.Common.{◌^◌, lit<}
 use mir.Syntax.{w128}
-use Rattle.selfgen_check.proofs.Products.{product_is}
+use Rattle.exact_algebra.proofs.Fits.{product_is}
 use Rattle.selfgen_check.proofs.limits.product.Goals as goal
 
 pub returns : goal.returns

@@ -1,7 +1,7 @@
 use Rattle.std.proofs.Common.{◌^◌, lit<}
 use mir.Syntax.{w128}
 use Rattle.exact_algebra.proofs.Order.{abs_product}
-use Rattle.selfgen_check.proofs.Products.{product_is}
+use Rattle.exact_algebra.proofs.Fits.{product_is}
 use Rattle.selfgen_check.proofs.sums.scaled.Goals as goal
 
 pub returns-clause-product : goal.returns-clause-product

@@ -5,8 +5,8 @@ use Rattle.std.specs.Int.RustNames.{FitsSigned}
 use Rattle.std.proofs.lemmas.Int.{to_z-of_z}
 use Rattle.level_table.specs.Levels.{levels_in}
 use Rattle.lp_core.specs.Answer.{IsBestPoint}
+use Rattle.exact_algebra.proofs.Fits.{fits128}
 use Rattle.set_operator.specs.Program.{stage_value}
-use Rattle.set_operator.proofs.Fits.{fits128}
 use Rattle.set_operator.proofs.Points.{meets_rows, vector_of}
 use Rattle.set_operator.proofs.Values.{best_from}
 use Rattle.set_operator.proofs.best.best_of.Goals as goal

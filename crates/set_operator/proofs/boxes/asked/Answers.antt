@@ -2,13 +2,14 @@
 use Rattle.std.proofs.Common.{◌≡◌, ◌+◌, ◌*◌, ◌<◌, ◌-◌, ◌/◌, ◌∙◌, ap, subst, sym, arith, false, slice_index_or, ◌-ℤ◌}
 use Rattle.std.specs.Prelude.{IsTrue}
 use Rattle.game_model.specs.Game.{counts, profile_count, payoff_at, deviation_at, reached, successor}
+use Rattle.game_model.proofs.Lists.{few_profiles}
 use Rattle.level_table.specs.declared.level.Level.TheVariants.{At}
 use Rattle.level_table.specs.Levels.{IsNumber, levels_in}
 use Rattle.level_table.specs.Problem.{minus_axis, discount_at, fineness}
 use Rattle.level_table.specs.Reasons.{IsKnown}
-use Rattle.bound_laws.proofs.Places.{reached_state, minus_axis_known}
+use Rattle.bound_laws.proofs.Places.{reached_state, minus_axis_known, deviation_known}
 use Rattle.set_operator.proofs.Scales.{IsGap, difference_fits, product_fits, gain_fits, gap_fits, gap_small, code_is, gain_by_factors}
-use Rattle.set_operator.proofs.Strides.{deviation_known, few_profiles, gap_by}
+use Rattle.set_operator.proofs.Strides.{gap_by}
 use Rattle.set_operator.proofs.boxes.asked.Goals as goal
 
 pub overflow_mul-instead : goal.overflow_mul-instead
@@ -17,7 +18,7 @@ overflow_mul-instead c =
     let ok = c.game-game.ensures.is_problem in
     let steps : c.args.by.now.first + c.args.b * c.args.by.now.stride ≡ deviation_at c.args.p.now.game c.args.by.now.state c.args.profile c.args.by.now.player c.args.b = c.requires.from.steps c.args.b c.requires.deviation.strategy in
     let known : deviation_at c.args.p.now.game c.args.by.now.state c.args.profile c.args.by.now.player c.args.b < profile_count (counts p.game c.args.by.now.state) = deviation_known c.args.p.now.game c.args.by.now.state c.args.profile c.args.by.now.player c.args.b ok.game c.requires.state c.requires.profile c.requires.deviation in
-    omega (arith, steps, known, few_profiles p.game c.args.by.now.state ok.game c.requires.state)
+    omega (arith, steps, known, few_profiles p.game ok.game c.args.by.now.state c.requires.state)
 
 pub overflow_add-instead : goal.overflow_add-instead
 overflow_add-instead c =
@@ -25,7 +26,7 @@ overflow_add-instead c =
     let ok = c.game-game.ensures.is_problem in
     let steps : c.args.by.now.first + c.args.b * c.args.by.now.stride ≡ deviation_at c.args.p.now.game c.args.by.now.state c.args.profile c.args.by.now.player c.args.b = c.requires.from.steps c.args.b c.requires.deviation.strategy in
     let known : deviation_at c.args.p.now.game c.args.by.now.state c.args.profile c.args.by.now.player c.args.b < profile_count (counts p.game c.args.by.now.state) = deviation_known c.args.p.now.game c.args.by.now.state c.args.profile c.args.by.now.player c.args.b ok.game c.requires.state c.requires.profile c.requires.deviation in
-    omega (arith, steps, known, few_profiles p.game c.args.by.now.state ok.game c.requires.state)
+    omega (arith, steps, known, few_profiles p.game ok.game c.args.by.now.state c.requires.state)
 
 pub next-next-requires-clause-profile : goal.next-next-requires-clause-profile
 next-next-requires-clause-profile c =

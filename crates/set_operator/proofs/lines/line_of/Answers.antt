@@ -2,12 +2,12 @@
 use Rattle.std.proofs.Common.{◌≡◌, ◌+◌, ◌*◌, ◌^◌, ◌<◌, ◌∙◌, arith, ap, subst, sym, lit<, ℤ}
 use Rattle.std.specs.Prelude.{slice_index}
 use Rattle.game_model.specs.Game.{counts, deviation_at, successor}
+use Rattle.game_model.proofs.Lists.{few_profiles}
 use Rattle.level_table.specs.Levels.{levels_in}
 use Rattle.level_table.specs.Reasons.{IsKnown}
 use Rattle.set_operator.specs.Lines.{IsKnownLine, IsLineBelow, IsTerm}
 use Rattle.set_operator.proofs.LineLemmas.{first_place, for_none, line_more, line_start, place_below, place_by, some_strategy}
 use Rattle.set_operator.proofs.Scales.{W, kept}
-use Rattle.set_operator.proofs.Strides.{few_profiles}
 use Rattle.set_operator.proofs.lines.line_of.Goals as goal
 
 pub returns-in_err-term-clause-none : goal.returns-in_err-term-clause-none
@@ -42,7 +42,7 @@ overflow_mul-b c =
     let inside : c.loop-b.b < slice_index (counts p.game s) i = omega (arith, c.strategies-b-end.ensures ∙ ap (λ g. slice_index (counts g s) i) c.game.ensures.game, c.loop-b-test.true) in
     let step : c.args.first + c.loop-b.b * c.args.by.now.stride ≡ deviation_at p.game s c.args.first i c.loop-b.b =
     place_by p.game s c.args.first i c.loop-b.b c.args.by.now.stride ok.game c.requires.state c.requires.profile c.requires.player inside c.requires.begins c.requires.from.stride in
-    omega (arith, step, place_below p.game s c.args.first i c.loop-b.b ok.game c.requires.state c.requires.profile c.requires.player inside, few_profiles p.game s ok.game c.requires.state)
+    omega (arith, step, place_below p.game s c.args.first i c.loop-b.b ok.game c.requires.state c.requires.profile c.requires.player inside, few_profiles p.game ok.game s c.requires.state)
 
 pub overflow_add-first : goal.overflow_add-first
 overflow_add-first c =
@@ -53,7 +53,7 @@ overflow_add-first c =
     let inside : c.loop-b.b < slice_index (counts p.game s) i = omega (arith, c.strategies-b-end.ensures ∙ ap (λ g. slice_index (counts g s) i) c.game.ensures.game, c.loop-b-test.true) in
     let step : c.args.first + c.loop-b.b * c.args.by.now.stride ≡ deviation_at p.game s c.args.first i c.loop-b.b =
     place_by p.game s c.args.first i c.loop-b.b c.args.by.now.stride ok.game c.requires.state c.requires.profile c.requires.player inside c.requires.begins c.requires.from.stride in
-    omega (arith, step, place_below p.game s c.args.first i c.loop-b.b ok.game c.requires.state c.requires.profile c.requires.player inside, few_profiles p.game s ok.game c.requires.state)
+    omega (arith, step, place_below p.game s c.args.first i c.loop-b.b ok.game c.requires.state c.requires.profile c.requires.player inside, few_profiles p.game ok.game s c.requires.state)
 
 pub term-requires-in-loop-b-clause-profile : goal.term-requires-in-loop-b-clause-profile
 term-requires-in-loop-b-clause-profile c =

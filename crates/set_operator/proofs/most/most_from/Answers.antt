@@ -4,7 +4,8 @@ use Rattle.std.specs.Int.{w64, w128}
 use Rattle.std.specs.Int.RustNames.{FitsSigned, unsigned_abs}
 use Rattle.std.proofs.lemmas.Int.{to_z-of_z}
 use Rattle.exact_algebra.proofs.Order.{abs_sum}
-use Rattle.set_operator.proofs.Fits.{fits128, sum128}
+use Rattle.exact_algebra.proofs.Fits.{fits128}
+use Rattle.set_operator.proofs.Fits.{sum128}
 use Rattle.set_operator.proofs.most.most_from.Goals as goal
 
 pub returns-clause-value : goal.returns-clause-value

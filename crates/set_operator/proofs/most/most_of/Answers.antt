@@ -3,7 +3,8 @@ use Rattle.std.specs.Prelude.{ℤ, pos, ◌*ℤ◌, ◌-ℤ◌}
 use Rattle.std.specs.Int.{w32, w64, w128}
 use Rattle.std.specs.Int.RustNames.{FitsSigned, unsigned_abs}
 use Rattle.std.proofs.lemmas.Int.{ints, to_z-of_z}
-use Rattle.set_operator.proofs.Fits.{fits64, fits128, product128}
+use Rattle.exact_algebra.proofs.Fits.{fits64, fits128}
+use Rattle.set_operator.proofs.Fits.{product128}
 use Rattle.set_operator.proofs.Mosts.{times_upper, times_lower}
 use Rattle.set_operator.proofs.most.most_of.Goals as goal
 

@@ -4,9 +4,10 @@ use Rattle.std.specs.Int.{w128}
 use Rattle.std.specs.Int.RustNames.{FitsSigned, unsigned_abs}
 use Rattle.std.proofs.lemmas.Int.{to_z-of_z}
 use Rattle.exact_algebra.proofs.Order.{abs_sum}
+use Rattle.exact_algebra.proofs.Fits.{fits128}
 use Rattle.game_model.specs.SelfGeneration.{part}
 use Rattle.level_table.specs.Problem.{IsProblem, direction, discount_at}
-use Rattle.set_operator.proofs.Fits.{fits128, sum128}
+use Rattle.set_operator.proofs.Fits.{sum128}
 use Rattle.set_operator.proofs.Mosts.{three_most}
 use Rattle.set_operator.proofs.most.spread_of.Goals as goal
 

@@ -6,7 +6,7 @@ use Rattle.std.proofs.lemmas.Int.{ints, to_z-of_z}
 use Rattle.bound_laws.proofs.Order.{at_most_along}
 use Rattle.game_model.specs.SelfGeneration.{part}
 use Rattle.level_table.specs.Problem.{discount_at}
-use Rattle.set_operator.proofs.Fits.{fits32}
+use Rattle.exact_algebra.proofs.Fits.{fits32}
 use Rattle.set_operator.proofs.Mosts.{times_upper}
 use Rattle.set_operator.proofs.Programs.{direction_small}
 use Rattle.set_operator.proofs.most.spread_part.Goals as goal

@@ -5,8 +5,8 @@ use Rattle.std.proofs.lemmas.Int.{to_z-of_z}
 use Rattle.level_table.specs.Levels.{levels_in}
 use Rattle.level_table.specs.Problem.{IsProblem, direction_count}
 use Rattle.lp_cert.specs.Program.{IsRow}
+use Rattle.exact_algebra.proofs.Fits.{fits64, fits128}
 use Rattle.set_operator.specs.Program.{IsProgramTo}
-use Rattle.set_operator.proofs.Fits.{fits64, fits128}
 use Rattle.set_operator.proofs.Programs.{program_more, direction_row, level_small}
 use Rattle.set_operator.proofs.program.fill_rows.Goals as goal
 

@@ -7,8 +7,8 @@ use Rattle.std.proofs.lemmas.List.{take_more}
 use Rattle.level_table.specs.Levels.{levels_in}
 use Rattle.level_table.specs.declared.reason.Item.{Item}
 use Rattle.lp_cert.proofs.Steps.{got, times_small}
+use Rattle.exact_algebra.proofs.Fits.{fits128}
 use Rattle.set_operator.specs.Program.{AreItemsOf, IsItemOf}
-use Rattle.set_operator.proofs.Fits.{fits128}
 use Rattle.set_operator.proofs.Items.{items_more}
 use Rattle.set_operator.proofs.program.items_of.Goals as goal
 

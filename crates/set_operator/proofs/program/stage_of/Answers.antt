@@ -4,11 +4,12 @@ use Rattle.std.specs.Int.{w128}
 use Rattle.std.specs.Int.RustNames.{FitsSigned, unsigned_abs}
 use Rattle.std.proofs.lemmas.Int.{to_z-of_z}
 use Rattle.exact_algebra.proofs.Order.{abs_sum}
+use Rattle.exact_algebra.proofs.Fits.{fits128}
 use Rattle.bound_laws.proofs.Order.{nought_times}
 use Rattle.game_model.specs.SelfGeneration.{part}
 use Rattle.level_table.specs.Problem.{IsProblem, direction}
 use Rattle.set_operator.specs.Boxes.{stage_at}
-use Rattle.set_operator.proofs.Fits.{fits128, sum128, three_sum}
+use Rattle.set_operator.proofs.Fits.{sum128, three_sum}
 use Rattle.set_operator.proofs.Programs.{direction_unused}
 use Rattle.set_operator.proofs.program.stage_of.Goals as goal
 

@@ -4,9 +4,10 @@ use Rattle.std.specs.Int.{w32, w64, w128}
 use Rattle.std.specs.Int.RustNames.{FitsSigned, unsigned_abs}
 use Rattle.std.proofs.lemmas.Int.{to_z-of_z}
 use Rattle.exact_algebra.proofs.Order.{abs_product}
+use Rattle.exact_algebra.proofs.Fits.{fits32, fits64, fits128}
 use Rattle.game_model.specs.SelfGeneration.{part}
 use Rattle.set_operator.specs.Boxes.{stage_at}
-use Rattle.set_operator.proofs.Fits.{fits32, fits64, fits128, product128}
+use Rattle.set_operator.proofs.Fits.{product128}
 use Rattle.set_operator.proofs.Programs.{direction_small}
 use Rattle.set_operator.proofs.program.stage_part.Goals as goal
 

@@ -4,9 +4,9 @@ use Rattle.std.specs.Int.{w32}
 use Rattle.std.specs.Int.RustNames.{FitsSigned, unsigned_abs}
 use Rattle.std.proofs.lemmas.Int.{to_z-of_z, to_z_pos}
 use Rattle.exact_algebra.proofs.Order.{abs_product}
+use Rattle.exact_algebra.proofs.Fits.{fits32}
 use Rattle.game_model.specs.SelfGeneration.{part}
 use Rattle.level_table.specs.Problem.{IsProblem, discount_at}
-use Rattle.set_operator.proofs.Fits.{fits32}
 use Rattle.set_operator.proofs.Programs.{direction_small}
 use Rattle.set_operator.proofs.program.weight.Goals as goal
 

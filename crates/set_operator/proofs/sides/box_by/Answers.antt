@@ -5,12 +5,12 @@ use Rattle.std.proofs.lemmas.Bool.{cases_eq}
 use Rattle.std.proofs.lemmas.List.{get_or-set_same, get_or-set_other, length-set}
 use Rattle.std.specs.Prelude.{None, Some}
 use Rattle.game_model.specs.Game.{counts, payoff_at, profile_count, successor}
+use Rattle.game_model.proofs.Lists.{few_profiles}
 use Rattle.level_table.specs.Levels.{levels_in}
 use Rattle.level_table.specs.Reasons.{IsKnown}
 use Rattle.set_operator.specs.Boxes.{IsSide, no_side, stage_scale}
 use Rattle.set_operator.specs.Lines.{AreAsks}
 use Rattle.set_operator.proofs.LineLemmas.{asks_here, line_known, next_by_line, place_inside, reach_by_line}
-use Rattle.set_operator.proofs.Strides.{few_profiles}
 use Rattle.set_operator.proofs.Scales.{W, kept}
 use Rattle.set_operator.proofs.sides.box_by.Goals as goal
 
@@ -23,7 +23,7 @@ loop-i-preserved c =
     let count : c.profiles-count.result ≡ n = c.profiles-count.ensures ∙ ap (λ g. profile_count (counts g c.args.state)) c.game-2.ensures.game in
     let inside : i < p.game.players = omega (arith, c.players-i-end.ensures, c.loop-i-test.true) in
     let ok = c.game.ensures.is_problem in
-    let place = place_inside i p.game.players n c.args.profile inside c.requires.profile ok.game.three_players (few_profiles p.game c.args.state ok.game c.requires.state) in
+    let place = place_inside i p.game.players n c.args.profile inside c.requires.profile ok.game.three_players (few_profiles p.game ok.game c.args.state c.requires.state) in
     let here : AreAsks p t c.args.state c.args.profile i (slice_index_or c.args.asks.now (i * c.profiles-count.result + c.args.profile) None) =
     asks_here p t c.args.state c.args.profile i c.profiles-count.result c.args.asks.now (omega (arith, count, c.requires.profile)) count (subst (λ m. i * m + c.args.profile < length c.args.asks.now) (sym count) (omega (arith, place.0, c.requires.one_each))) c.requires.each in
     let found : AreAsks p t c.args.state c.args.profile i (Some c.in-Some.found) = subst (AreAsks p t c.args.state c.args.profile i) c.in-Some.is here in
@@ -62,7 +62,7 @@ overflow_mul-i c =
     let count : c.profiles-count.result ≡ n = c.profiles-count.ensures ∙ ap (λ g. profile_count (counts g c.args.state)) c.game-2.ensures.game in
     let inside : i < p.game.players = omega (arith, c.players-i-end.ensures, c.loop-i-test.true) in
     let ok = c.game.ensures.is_problem in
-    let place = place_inside i p.game.players n c.args.profile inside c.requires.profile ok.game.three_players (few_profiles p.game c.args.state ok.game c.requires.state) in
+    let place = place_inside i p.game.players n c.args.profile inside c.requires.profile ok.game.three_players (few_profiles p.game ok.game c.args.state c.requires.state) in
     let e : i * c.profiles-count.result ≡ i * n = ap (λ m. i * m) count in
     omega (arith, e, place.0, place.1)
 
@@ -75,7 +75,7 @@ overflow_add-i c =
     let count : c.profiles-count.result ≡ n = c.profiles-count.ensures ∙ ap (λ g. profile_count (counts g c.args.state)) c.game-2.ensures.game in
     let inside : i < p.game.players = omega (arith, c.players-i-end.ensures, c.loop-i-test.true) in
     let ok = c.game.ensures.is_problem in
-    let place = place_inside i p.game.players n c.args.profile inside c.requires.profile ok.game.three_players (few_profiles p.game c.args.state ok.game c.requires.state) in
+    let place = place_inside i p.game.players n c.args.profile inside c.requires.profile ok.game.three_players (few_profiles p.game ok.game c.args.state c.requires.state) in
     let e : i * c.profiles-count.result ≡ i * n = ap (λ m. i * m) count in
     omega (arith, e, place.0, place.1)
 
@@ -88,7 +88,7 @@ returns-in_default c =
     let count : c.profiles-count.result ≡ n = c.profiles-count.ensures ∙ ap (λ g. profile_count (counts g c.args.state)) c.game-2.ensures.game in
     let inside : i < p.game.players = omega (arith, c.players-i-end.ensures, c.loop-i-test.true) in
     let ok = c.game.ensures.is_problem in
-    let place = place_inside i p.game.players n c.args.profile inside c.requires.profile ok.game.three_players (few_profiles p.game c.args.state ok.game c.requires.state) in
+    let place = place_inside i p.game.players n c.args.profile inside c.requires.profile ok.game.three_players (few_profiles p.game ok.game c.args.state c.requires.state) in
     let here : AreAsks p t c.args.state c.args.profile i (slice_index_or c.args.asks.now (i * c.profiles-count.result + c.args.profile) None) =
     asks_here p t c.args.state c.args.profile i c.profiles-count.result c.args.asks.now (omega (arith, count, c.requires.profile)) count (subst (λ m. i * m + c.args.profile < length c.args.asks.now) (sym count) (omega (arith, place.0, c.requires.one_each))) c.requires.each in
     let none : AreAsks p t c.args.state c.args.profile i None = subst (AreAsks p t c.args.state c.args.profile i) c.in_default.is here in
@@ -103,7 +103,7 @@ side_by-requires-clause-known c =
     let count : c.profiles-count.result ≡ n = c.profiles-count.ensures ∙ ap (λ g. profile_count (counts g c.args.state)) c.game-2.ensures.game in
     let inside : i < p.game.players = omega (arith, c.players-i-end.ensures, c.loop-i-test.true) in
     let ok = c.game.ensures.is_problem in
-    let place = place_inside i p.game.players n c.args.profile inside c.requires.profile ok.game.three_players (few_profiles p.game c.args.state ok.game c.requires.state) in
+    let place = place_inside i p.game.players n c.args.profile inside c.requires.profile ok.game.three_players (few_profiles p.game ok.game c.args.state c.requires.state) in
     let here : AreAsks p t c.args.state c.args.profile i (slice_index_or c.args.asks.now (i * c.profiles-count.result + c.args.profile) None) =
     asks_here p t c.args.state c.args.profile i c.profiles-count.result c.args.asks.now (omega (arith, count, c.requires.profile)) count (subst (λ m. i * m + c.args.profile < length c.args.asks.now) (sym count) (omega (arith, place.0, c.requires.one_each))) c.requires.each in
     let found : AreAsks p t c.args.state c.args.profile i (Some c.in-Some.found) = subst (AreAsks p t c.args.state c.args.profile i) c.in-Some.is here in
@@ -119,7 +119,7 @@ side_by-requires-clause-line c =
     let count : c.profiles-count.result ≡ n = c.profiles-count.ensures ∙ ap (λ g. profile_count (counts g c.args.state)) c.game-2.ensures.game in
     let inside : i < p.game.players = omega (arith, c.players-i-end.ensures, c.loop-i-test.true) in
     let ok = c.game.ensures.is_problem in
-    let place = place_inside i p.game.players n c.args.profile inside c.requires.profile ok.game.three_players (few_profiles p.game c.args.state ok.game c.requires.state) in
+    let place = place_inside i p.game.players n c.args.profile inside c.requires.profile ok.game.three_players (few_profiles p.game ok.game c.args.state c.requires.state) in
     let here : AreAsks p t c.args.state c.args.profile i (slice_index_or c.args.asks.now (i * c.profiles-count.result + c.args.profile) None) =
     asks_here p t c.args.state c.args.profile i c.profiles-count.result c.args.asks.now (omega (arith, count, c.requires.profile)) count (subst (λ m. i * m + c.args.profile < length c.args.asks.now) (sym count) (omega (arith, place.0, c.requires.one_each))) c.requires.each in
     let found : AreAsks p t c.args.state c.args.profile i (Some c.in-Some.found) = subst (AreAsks p t c.args.state c.args.profile i) c.in-Some.is here in
@@ -134,7 +134,7 @@ side_by-requires-clause-own c =
     let count : c.profiles-count.result ≡ n = c.profiles-count.ensures ∙ ap (λ g. profile_count (counts g c.args.state)) c.game-2.ensures.game in
     let inside : i < p.game.players = omega (arith, c.players-i-end.ensures, c.loop-i-test.true) in
     let ok = c.game.ensures.is_problem in
-    let place = place_inside i p.game.players n c.args.profile inside c.requires.profile ok.game.three_players (few_profiles p.game c.args.state ok.game c.requires.state) in
+    let place = place_inside i p.game.players n c.args.profile inside c.requires.profile ok.game.three_players (few_profiles p.game ok.game c.args.state c.requires.state) in
     let here : AreAsks p t c.args.state c.args.profile i (slice_index_or c.args.asks.now (i * c.profiles-count.result + c.args.profile) None) =
     asks_here p t c.args.state c.args.profile i c.profiles-count.result c.args.asks.now (omega (arith, count, c.requires.profile)) count (subst (λ m. i * m + c.args.profile < length c.args.asks.now) (sym count) (omega (arith, place.0, c.requires.one_each))) c.requires.each in
     let found : AreAsks p t c.args.state c.args.profile i (Some c.in-Some.found) = subst (AreAsks p t c.args.state c.args.profile i) c.in-Some.is here in

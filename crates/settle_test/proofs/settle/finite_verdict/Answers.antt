@@ -1,7 +1,7 @@
 use Rattle.std.proofs.Common.{sym, pos, to_z, of_z}
 use Rattle.std.proofs.lemmas.Int.{to_z-of_z}
 use mir.Syntax.{w64}
-use Rattle.settle_test.proofs.Places.{fits_level}
+use Rattle.level_table.proofs.Numbers.{fits_level}
 use Rattle.settle_test.proofs.Settling.{none_by_code, some_by_code, fine_by_code, above_from, state_ready}
 use Rattle.settle_test.proofs.settle.finite_verdict.Goals as goal
 

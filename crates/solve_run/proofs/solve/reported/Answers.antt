@@ -1,7 +1,7 @@
 use Rattle.std.proofs.Common.{◌≡◌, ◌∙◌, ap, subst}
 use Rattle.game_model.specs.Game.{states}
 use Rattle.level_table.specs.Problem.{IsProblem, Problem, direction_count, problem_of}
-use Rattle.solve_run.proofs.Answers.{small_opening}
+use Rattle.level_table.proofs.Numbers.{small_opening}
 use Rattle.solve_run.proofs.Reporting.{report_prints}
 use Rattle.solve_run.proofs.solve.reported.Goals as goal
 

@@ -1,6 +1,6 @@
 use Rattle.std.proofs.Common.{sym, subst}
 use Rattle.game_model.specs.Parts.{KeepLimits}
-use Rattle.level_table.proofs.WorkedRows.{dilemma_keeps_limits}
+use Rattle.game_model.proofs.Dilemma.{dilemma_keeps_limits}
 use Rattle.sweep_run.proofs.tests.the_dilemma_comes_down.Goals as goal
 
 pub build-requires : goal.build-requires

@@ -1,6 +1,6 @@
 use Rattle.std.proofs.Common.{sym, subst}
 use Rattle.game_model.specs.Parts.{KeepLimits}
-use Rattle.level_table.proofs.WorkedRows.{dilemma_keeps_limits}
+use Rattle.game_model.proofs.Dilemma.{dilemma_keeps_limits}
 use Rattle.worker_pass.proofs.tests.a_pass_updates_under_what_another_lowered.Goals as goal
 
 pub build-requires : goal.build-requires

@@ -5,7 +5,7 @@ use Rattle.std.proofs.lemmas.List.{length-set}
 use mir.Val.{to_z, of_z, SFits}
 use Rattle.level_table.specs.declared.level.Level.TheVariants.{At}
 use Rattle.level_table.specs.Levels.{IsSmall, Table, lesser}
-use Rattle.level_table.specs.Tables.{word_at}
+use Rattle.level_table.specs.Tables.{kept_word}
 use Rattle.schedule_core.specs.Frame.{Frame, IsFrame, IsRowLevelOf, IsSeen, rows_of}
 use Rattle.schedule_core.proofs.Levels.{IsLowering, row_level_lowers}
 use Rattle.level_board.specs.declared.view.View.{View}
@@ -35,7 +35,7 @@ fetch_min-old-requires c =
     let frames = ap (λ (b : BoardId). b.frame) c.self.view_is in
     let board = ap (λ (p : PassView). p.board) c.pass.view_is ∙ c.requires.board ∙ sym c.self.view_is in
     let low = lowering _ c.args.self.now.frame _ c.args.pass.now.seen c.args.row c.args.level (ap (λ (b : BoardId). b.frame) c.self.view_is) (ap (λ (p : PassView). p.board.frame) c.pass.view_is ∙ ap (λ (b : BoardId). b.frame) c.requires.board) (ap (λ (p : PassView). p.seen) c.pass.view_is) c.self.invariant.0 c.pass.invariant.0 c.requires.row c.requires.level in
-    let word : c.word_of-new.result ≡ word_at (At c.args.level) = c.word_of-new.ensures.word ∙ ap (λ (x : ℤ). word_at (At x)) (same_number c.args.level c.ranges.level) in
+    let word : c.word_of-new.result ≡ kept_word (At c.args.level) = c.word_of-new.ensures.word ∙ ap (λ (x : ℤ). kept_word (At x)) (same_number c.args.level c.ranges.level) in
     let within = subst (λ (b : BoardId). c.args.row < rows_of b.frame) (sym c.self.view_is) c.requires.row in
     (ap (λ (b : BoardId). b.table) board, omega (arith, within, c.self.invariant.1), lowers _ _ _ _ c.args.row _ c.args.level c.pass.invariant.0.unspent (ap (λ (b : BoardId). b.frame) board) within word (subst (λ (h : Frame). IsLowering h c.args.row (At c.args.level)) (sym frames) low))
 
@@ -43,7 +43,7 @@ pub invariant_of-pass : goal.invariant_of-pass
 invariant_of-pass c =
     let same = ap (λ (p : PassView). p.board.frame) c.pass.view_is ∙ ap (λ (b : BoardId). b.frame) c.requires.board in
     let low = lowering _ c.args.self.now.frame _ c.args.pass.now.seen c.args.row c.args.level (ap (λ (b : BoardId). b.frame) c.self.view_is) (ap (λ (p : PassView). p.board.frame) c.pass.view_is ∙ ap (λ (b : BoardId). b.frame) c.requires.board) (ap (λ (p : PassView). p.seen) c.pass.view_is) c.self.invariant.0 c.pass.invariant.0 c.requires.row c.requires.level in
-    let word : c.word_of-new.result ≡ word_at (At c.args.level) = c.word_of-new.ensures.word ∙ ap (λ (x : ℤ). word_at (At x)) (same_number c.args.level c.ranges.level) in
+    let word : c.word_of-new.result ≡ kept_word (At c.args.level) = c.word_of-new.ensures.word ∙ ap (λ (x : ℤ). kept_word (At x)) (same_number c.args.level c.ranges.level) in
     let told = c.fetch_min-old.ensures.2 in
     let kept = pass_lowered c.args.self.now.frame _ c.args.row _ _ c.args.level _ told.0 same word low c.pass.invariant.0 c.requires.row in
     (kept.0, kept.1 ∙ c.pass.invariant.1, told.1 ∙ c.pass.invariant.2)
@@ -55,7 +55,7 @@ returns-clause-event c =
     let told = c.fetch_min-old.ensures.2.0 in
     let is = c.level_of.ensures.level told.found.level told.found.sound.small told.found.word in
     let low = lowering _ c.args.self.now.frame _ c.args.pass.now.seen c.args.row c.args.level (ap (λ (b : BoardId). b.frame) c.self.view_is) (ap (λ (p : PassView). p.board.frame) c.pass.view_is ∙ ap (λ (b : BoardId). b.frame) c.requires.board) (ap (λ (p : PassView). p.seen) c.pass.view_is) c.self.invariant.0 c.pass.invariant.0 c.requires.row c.requires.level in
-    let word : c.word_of-new.result ≡ word_at (At c.args.level) = c.word_of-new.ensures.word ∙ ap (λ (x : ℤ). word_at (At x)) (same_number c.args.level c.ranges.level) in
+    let word : c.word_of-new.result ≡ kept_word (At c.args.level) = c.word_of-new.ensures.word ∙ ap (λ (x : ℤ). kept_word (At x)) (same_number c.args.level c.ranges.level) in
     lowered_event _ c.args.row _ _ _ c.args.self.now.frame c.args.pass.now.seen _ _ c.args.level told c.pass.invariant.0.unspent same seen refl is c.requires.row low.small word c.requires.level
 
 pub returns-clause-seen : goal.returns-clause-seen
@@ -64,7 +64,7 @@ returns-clause-seen c =
     let told = c.fetch_min-old.ensures.2.0 in
     let is = c.level_of.ensures.level told.found.level told.found.sound.small told.found.word in
     let low = lowering _ c.args.self.now.frame _ c.args.pass.now.seen c.args.row c.args.level (ap (λ (b : BoardId). b.frame) c.self.view_is) (ap (λ (p : PassView). p.board.frame) c.pass.view_is ∙ ap (λ (b : BoardId). b.frame) c.requires.board) (ap (λ (p : PassView). p.seen) c.pass.view_is) c.self.invariant.0 c.pass.invariant.0 c.requires.row c.requires.level in
-    let word : c.word_of-new.result ≡ word_at (At c.args.level) = c.word_of-new.ensures.word ∙ ap (λ (x : ℤ). word_at (At x)) (same_number c.args.level c.ranges.level) in
+    let word : c.word_of-new.result ≡ kept_word (At c.args.level) = c.word_of-new.ensures.word ∙ ap (λ (x : ℤ). kept_word (At x)) (same_number c.args.level c.ranges.level) in
     lowered_seen _ c.args.row _ _ _ c.args.pass.now.seen _ c.args.level told seen is low.small word
 
 pub returns-clause-back : goal.returns-clause-back
@@ -74,7 +74,7 @@ returns-clause-back c =
     let told = c.fetch_min-old.ensures.2.0 in
     let is = c.level_of.ensures.level told.found.level told.found.sound.small told.found.word in
     let low = lowering _ c.args.self.now.frame _ c.args.pass.now.seen c.args.row c.args.level (ap (λ (b : BoardId). b.frame) c.self.view_is) (ap (λ (p : PassView). p.board.frame) c.pass.view_is ∙ ap (λ (b : BoardId). b.frame) c.requires.board) (ap (λ (p : PassView). p.seen) c.pass.view_is) c.self.invariant.0 c.pass.invariant.0 c.requires.row c.requires.level in
-    let word : c.word_of-new.result ≡ word_at (At c.args.level) = c.word_of-new.ensures.word ∙ ap (λ (x : ℤ). word_at (At x)) (same_number c.args.level c.ranges.level) in
+    let word : c.word_of-new.result ≡ kept_word (At c.args.level) = c.word_of-new.ensures.word ∙ ap (λ (x : ℤ). kept_word (At x)) (same_number c.args.level c.ranges.level) in
     let is_new = lowered_seen _ c.args.row _ _ _ c.args.pass.now.seen _ c.args.level told seen is low.small word in
     let count = ap (λ (t : Table). length t.levels) seen in
     let within : c.args.row < rows_of c.args.self.now.frame = c.requires.row in
@@ -94,7 +94,7 @@ returns-clause-fallen c =
     let told = c.fetch_min-old.ensures.2.0 in
     let is = c.level_of.ensures.level told.found.level told.found.sound.small told.found.word in
     let low = lowering _ c.args.self.now.frame _ c.args.pass.now.seen c.args.row c.args.level (ap (λ (b : BoardId). b.frame) c.self.view_is) (ap (λ (p : PassView). p.board.frame) c.pass.view_is ∙ ap (λ (b : BoardId). b.frame) c.requires.board) (ap (λ (p : PassView). p.seen) c.pass.view_is) c.self.invariant.0 c.pass.invariant.0 c.requires.row c.requires.level in
-    let word : c.word_of-new.result ≡ word_at (At c.args.level) = c.word_of-new.ensures.word ∙ ap (λ (x : ℤ). word_at (At x)) (same_number c.args.level c.ranges.level) in
+    let word : c.word_of-new.result ≡ kept_word (At c.args.level) = c.word_of-new.ensures.word ∙ ap (λ (x : ℤ). kept_word (At x)) (same_number c.args.level c.ranges.level) in
     fallen_to_lesser c.args.pass.now.seen _ c.args.row _ c.args.level (lowered_seen _ c.args.row _ _ _ c.args.pass.now.seen _ c.args.level told seen is low.small word) (found_fell _ c.args.row _ c.args.pass.now.seen _ told.found seen is)
 
 pub returns-clause-above : goal.returns-clause-above

@@ -5,7 +5,7 @@ use Rattle.std.proofs.lemmas.List.{length-set}
 use mir.Val.{to_z, of_z, SFits}
 use Rattle.level_table.specs.declared.level.Level.TheVariants.{At}
 use Rattle.level_table.specs.Levels.{IsSmall, Table, lesser}
-use Rattle.level_table.specs.Tables.{word_at}
+use Rattle.level_table.specs.Tables.{kept_word}
 use Rattle.schedule_core.specs.Frame.{Frame, IsFrame, IsRowLevelOf, IsSeen, rows_of}
 use Rattle.schedule_core.specs.Room.{HasRoom}
 use Rattle.schedule_core.proofs.Levels.{IsLowering, row_level_lowers}
@@ -36,7 +36,7 @@ fetch_min-found-requires c =
     let frames = ap (λ (b : BoardId). b.frame) c.self.view_is in
     let board = ap (λ (p : OwnerView). p.board) c.owner.view_is ∙ c.requires.board ∙ sym c.self.view_is in
     let low = lowering _ c.args.self.now.frame _ c.args.owner.now.seen c.args.row c.args.level (ap (λ (b : BoardId). b.frame) c.self.view_is) (ap (λ (p : OwnerView). p.board.frame) c.owner.view_is ∙ ap (λ (b : BoardId). b.frame) c.requires.board) (ap (λ (p : OwnerView). p.seen) c.owner.view_is) c.self.invariant.0 c.owner.invariant.0.pass c.requires.row c.requires.level in
-    let word : c.word_of-new.result ≡ word_at (At c.args.level) = c.word_of-new.ensures.word ∙ ap (λ (x : ℤ). word_at (At x)) (same_number c.args.level c.ranges.level) in
+    let word : c.word_of-new.result ≡ kept_word (At c.args.level) = c.word_of-new.ensures.word ∙ ap (λ (x : ℤ). kept_word (At x)) (same_number c.args.level c.ranges.level) in
     let within = subst (λ (b : BoardId). c.args.row < rows_of b.frame) (sym c.self.view_is) c.requires.row in
     (ap (λ (b : BoardId). b.table) board, omega (arith, within, c.self.invariant.1), lowers _ _ _ _ c.args.row _ c.args.level c.owner.invariant.0.pass.unspent (ap (λ (b : BoardId). b.frame) board) within word (subst (λ (h : Frame). IsLowering h c.args.row (At c.args.level)) (sym frames) low))
 
@@ -44,7 +44,7 @@ pub invariant_of-owner : goal.invariant_of-owner
 invariant_of-owner c =
     let same = ap (λ (p : OwnerView). p.board.frame) c.owner.view_is ∙ ap (λ (b : BoardId). b.frame) c.requires.board in
     let low = lowering _ c.args.self.now.frame _ c.args.owner.now.seen c.args.row c.args.level (ap (λ (b : BoardId). b.frame) c.self.view_is) (ap (λ (p : OwnerView). p.board.frame) c.owner.view_is ∙ ap (λ (b : BoardId). b.frame) c.requires.board) (ap (λ (p : OwnerView). p.seen) c.owner.view_is) c.self.invariant.0 c.owner.invariant.0.pass c.requires.row c.requires.level in
-    let word : c.word_of-new.result ≡ word_at (At c.args.level) = c.word_of-new.ensures.word ∙ ap (λ (x : ℤ). word_at (At x)) (same_number c.args.level c.ranges.level) in
+    let word : c.word_of-new.result ≡ kept_word (At c.args.level) = c.word_of-new.ensures.word ∙ ap (λ (x : ℤ). kept_word (At x)) (same_number c.args.level c.ranges.level) in
     let told = c.fetch_min-found.ensures.2 in
     let view = told.0.seen (At c.args.level) low.small word in
     (owner_lowered c.args.self.now.frame _ c.args.row _ _ c.args.level _ _ told.0 same word low c.owner.invariant.0 c.requires.row, told.1 ∙ c.owner.invariant.1, subst (λ (v : View). HasRoom (frame_of v).problem.game c.owner.inside.notes) (sym view) c.owner.invariant.2)
@@ -56,7 +56,7 @@ returns-clause-event c =
     let told = c.fetch_min-found.ensures.2.0 in
     let is = c.level_of.ensures.level told.found.level told.found.sound.small told.found.word in
     let low = lowering _ c.args.self.now.frame _ c.args.owner.now.seen c.args.row c.args.level (ap (λ (b : BoardId). b.frame) c.self.view_is) (ap (λ (p : OwnerView). p.board.frame) c.owner.view_is ∙ ap (λ (b : BoardId). b.frame) c.requires.board) (ap (λ (p : OwnerView). p.seen) c.owner.view_is) c.self.invariant.0 c.owner.invariant.0.pass c.requires.row c.requires.level in
-    let word : c.word_of-new.result ≡ word_at (At c.args.level) = c.word_of-new.ensures.word ∙ ap (λ (x : ℤ). word_at (At x)) (same_number c.args.level c.ranges.level) in
+    let word : c.word_of-new.result ≡ kept_word (At c.args.level) = c.word_of-new.ensures.word ∙ ap (λ (x : ℤ). kept_word (At x)) (same_number c.args.level c.ranges.level) in
     lowered_event _ c.args.row _ _ _ c.args.self.now.frame c.args.owner.now.seen _ _ c.args.level told c.owner.invariant.0.pass.unspent same seen refl is c.requires.row low.small word c.requires.level
 
 pub returns-clause-seen : goal.returns-clause-seen
@@ -65,7 +65,7 @@ returns-clause-seen c =
     let told = c.fetch_min-found.ensures.2.0 in
     let is = c.level_of.ensures.level told.found.level told.found.sound.small told.found.word in
     let low = lowering _ c.args.self.now.frame _ c.args.owner.now.seen c.args.row c.args.level (ap (λ (b : BoardId). b.frame) c.self.view_is) (ap (λ (p : OwnerView). p.board.frame) c.owner.view_is ∙ ap (λ (b : BoardId). b.frame) c.requires.board) (ap (λ (p : OwnerView). p.seen) c.owner.view_is) c.self.invariant.0 c.owner.invariant.0.pass c.requires.row c.requires.level in
-    let word : c.word_of-new.result ≡ word_at (At c.args.level) = c.word_of-new.ensures.word ∙ ap (λ (x : ℤ). word_at (At x)) (same_number c.args.level c.ranges.level) in
+    let word : c.word_of-new.result ≡ kept_word (At c.args.level) = c.word_of-new.ensures.word ∙ ap (λ (x : ℤ). kept_word (At x)) (same_number c.args.level c.ranges.level) in
     lowered_seen _ c.args.row _ _ _ c.args.owner.now.seen _ c.args.level told seen is low.small word
 
 pub returns-clause-back : goal.returns-clause-back
@@ -75,7 +75,7 @@ returns-clause-back c =
     let told = c.fetch_min-found.ensures.2.0 in
     let is = c.level_of.ensures.level told.found.level told.found.sound.small told.found.word in
     let low = lowering _ c.args.self.now.frame _ c.args.owner.now.seen c.args.row c.args.level (ap (λ (b : BoardId). b.frame) c.self.view_is) (ap (λ (p : OwnerView). p.board.frame) c.owner.view_is ∙ ap (λ (b : BoardId). b.frame) c.requires.board) (ap (λ (p : OwnerView). p.seen) c.owner.view_is) c.self.invariant.0 c.owner.invariant.0.pass c.requires.row c.requires.level in
-    let word : c.word_of-new.result ≡ word_at (At c.args.level) = c.word_of-new.ensures.word ∙ ap (λ (x : ℤ). word_at (At x)) (same_number c.args.level c.ranges.level) in
+    let word : c.word_of-new.result ≡ kept_word (At c.args.level) = c.word_of-new.ensures.word ∙ ap (λ (x : ℤ). kept_word (At x)) (same_number c.args.level c.ranges.level) in
     let is_new = lowered_seen _ c.args.row _ _ _ c.args.owner.now.seen _ c.args.level told seen is low.small word in
     let count = ap (λ (t : Table). length t.levels) seen in
     let within : c.args.row < rows_of c.args.self.now.frame = c.requires.row in
@@ -95,7 +95,7 @@ returns-clause-fallen c =
     let told = c.fetch_min-found.ensures.2.0 in
     let is = c.level_of.ensures.level told.found.level told.found.sound.small told.found.word in
     let low = lowering _ c.args.self.now.frame _ c.args.owner.now.seen c.args.row c.args.level (ap (λ (b : BoardId). b.frame) c.self.view_is) (ap (λ (p : OwnerView). p.board.frame) c.owner.view_is ∙ ap (λ (b : BoardId). b.frame) c.requires.board) (ap (λ (p : OwnerView). p.seen) c.owner.view_is) c.self.invariant.0 c.owner.invariant.0.pass c.requires.row c.requires.level in
-    let word : c.word_of-new.result ≡ word_at (At c.args.level) = c.word_of-new.ensures.word ∙ ap (λ (x : ℤ). word_at (At x)) (same_number c.args.level c.ranges.level) in
+    let word : c.word_of-new.result ≡ kept_word (At c.args.level) = c.word_of-new.ensures.word ∙ ap (λ (x : ℤ). kept_word (At x)) (same_number c.args.level c.ranges.level) in
     fallen_to_lesser c.args.owner.now.seen _ c.args.row _ c.args.level (lowered_seen _ c.args.row _ _ _ c.args.owner.now.seen _ c.args.level told seen is low.small word) (found_fell _ c.args.row _ c.args.owner.now.seen _ told.found seen is)
 
 pub returns-clause-above : goal.returns-clause-above

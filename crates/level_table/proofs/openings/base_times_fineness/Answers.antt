@@ -4,8 +4,9 @@ use Rattle.std.specs.Int.{w128}
 use Rattle.std.specs.Int.RustNames.{unsigned_abs}
 use Rattle.std.proofs.lemmas.Nat.{one_shl}
 use Rattle.std.proofs.Math.Pow.{pow_mono}
-use Rattle.level_table.proofs.Sizes.{base_small, fineness_small, product_fits, product_is}
-use Rattle.level_table.proofs.openings.fineness.Goals as goal
+use Rattle.exact_algebra.proofs.Fits.{product_fits, product_is}
+use Rattle.level_table.proofs.Sizes.{base_small, base_times_fineness_small}
+use Rattle.level_table.proofs.openings.base_times_fineness.Goals as goal
 
 pub overflow_mul-result : goal.overflow_mul-result
 overflow_mul-result c =
@@ -23,4 +24,4 @@ returns-clause-value c =
     product_is w128 c.base.result c.from.result (2 ^ 30) (2 ^ 30) (search rules) (search rules) low few (lit< tt) ∙ exact
 
 pub returns-clause-small : goal.returns-clause-small
-returns-clause-small c = fineness_small c.args.game.now c.args.grid c.players-players.ensures.is_game c.requires
+returns-clause-small c = base_times_fineness_small c.args.game.now c.args.grid c.players-players.ensures.is_game c.requires
