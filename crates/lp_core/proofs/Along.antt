@@ -15,11 +15,11 @@ pub along_is : (c y : List ℤ) → along c y ≡ entry c 0 *ℤ entry y 0 +ℤ 
 unfolding along
 along_is c y = refl
 
-same_entries : (a b d a' b' d' x y z : ℤ) → a ≡ a' → b ≡ b' → d ≡ d' → a *ℤ x +ℤ (b *ℤ y +ℤ d *ℤ z) ≡ a' *ℤ x +ℤ (b' *ℤ y +ℤ d' *ℤ z)
+pub same_entries : (a b d a' b' d' x y z : ℤ) → a ≡ a' → b ≡ b' → d ≡ d' → a *ℤ x +ℤ (b *ℤ y +ℤ d *ℤ z) ≡ a' *ℤ x +ℤ (b' *ℤ y +ℤ d' *ℤ z)
 same_entries a b d a' b' d' x y z p q r =
     ap (λ t. t *ℤ x +ℤ (b *ℤ y +ℤ d *ℤ z)) p ∙ ap (λ t. a' *ℤ x +ℤ (t *ℤ y +ℤ d *ℤ z)) q ∙ ap (λ t. a' *ℤ x +ℤ (b' *ℤ y +ℤ t *ℤ z)) r
 
-same_entries_right : (a b d a' b' d' x y z : ℤ) → a ≡ a' → b ≡ b' → d ≡ d' → x *ℤ a +ℤ (y *ℤ b +ℤ z *ℤ d) ≡ x *ℤ a' +ℤ (y *ℤ b' +ℤ z *ℤ d')
+pub same_entries_right : (a b d a' b' d' x y z : ℤ) → a ≡ a' → b ≡ b' → d ≡ d' → x *ℤ a +ℤ (y *ℤ b +ℤ z *ℤ d) ≡ x *ℤ a' +ℤ (y *ℤ b' +ℤ z *ℤ d')
 same_entries_right a b d a' b' d' x y z p q r =
     ap (λ t. x *ℤ t +ℤ (y *ℤ b +ℤ z *ℤ d)) p ∙ ap (λ t. x *ℤ a' +ℤ (y *ℤ t +ℤ z *ℤ d)) q ∙ ap (λ t. x *ℤ a' +ℤ (y *ℤ b' +ℤ z *ℤ t)) r
 

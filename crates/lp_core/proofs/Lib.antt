@@ -13,8 +13,10 @@ pub mod Levels
 pub mod Lift
 pub mod Lines
 pub mod Narrow
+pub mod Planes
 pub mod Smaller
 pub mod Steps
 pub mod Sums
+pub mod Turned
 pub mod Views
 pub mod Wholes

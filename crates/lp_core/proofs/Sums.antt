@@ -14,7 +14,7 @@ use Rattle.lp_core.specs.declared.pivot.Pivot.{Pivot}
 use Rattle.lp_core.specs.Lines.{line_at, line_sum, line_sides}
 use Rattle.lp_core.specs.Elimination.{AreEliminated, factor_of, source_of, lifted_item, lifted_items, pivot_sum}
 
-total_by-map : {A B : Type 0} (f : B → ℤ) (h : A → B) (xs : List A) → total_by f (map h xs) ≡ total_by (λ x. f (h x)) xs
+pub total_by-map : {A B : Type 0} (f : B → ℤ) (h : A → B) (xs : List A) → total_by f (map h xs) ≡ total_by (λ x. f (h x)) xs
 total_by-map f h [] = refl
 total_by-map f h (x ∷ xs) = ap (λ z. f (h x) +ℤ z) (total_by-map f h xs)
 

@@ -70,17 +70,17 @@ no_row = record { c = []; h = pos 0 }
 pub row_right : (p : Program) (l : ℕ) → IsProgram p → l < length p.rows → IsRow p.dimension (row_at p l)
 row_right p l h w = h.each l (record { c = []; h = pos 0 }) w
 
-pub whole_is_reduced : (p : Program) (q : Reduced) (o : List ℤ) → IsProgram p → IsWhole p q → length o ≡ 3 → All (λ x. unsigned_abs x ≤ 4096) o → ((k : ℕ) → p.dimension ≤ k → entry o k ≡ pos 0) → IsReduced q o
-whole_is_reduced p q o h w three small zeros =
+reduced_by : (p : Program) (q : Reduced) (o : List ℤ) (most : ℕ) → most ≤ objective_most p.dimension → IsProgram p → IsWhole p q → length o ≡ 3 → All (λ x. unsigned_abs x ≤ most) o → ((k : ℕ) → p.dimension ≤ k → entry o k ≡ pos 0) → IsReduced q o
+reduced_by p q o most limit h w three small zeros =
     let d = whole_level p q h w in
     record {
       three = w.three;
       few = omega (arith, w.count, h.room);
       lines = λ l lt. subst (λ n. IsSmallLine (entry_most n) (side_most n) (line_at q.lines l)) (sym d) (line l (omega (arith, lt, w.count)));
       objective = subst (λ n. AreAtMost (objective_most n) o) (sym d) (record {
-        first = omega (arith, small 0 (pos 0) (omega (arith, three)), objective_limit p.dimension);
-        second = omega (arith, small 1 (pos 0) (omega (arith, three)), objective_limit p.dimension);
-        third = omega (arith, small 2 (pos 0) (omega (arith, three)), objective_limit p.dimension);
+        first = omega (arith, small 0 (pos 0) (omega (arith, three)), limit);
+        second = omega (arith, small 1 (pos 0) (omega (arith, three)), limit);
+        third = omega (arith, small 2 (pos 0) (omega (arith, three)), limit);
       });
       dead = λ k k3 e.
           let past : p.dimension ≤ k = from_false k p.dimension (sym (w.live k k3) ∙ e) in
@@ -104,6 +104,13 @@ whole_is_reduced p q o h w three small zeros =
           entries = record { first = part 0 (lit< tt); second = part 1 (lit< tt); third = part 2 (lit< tt) };
           side = subst (λ z. unsigned_abs z ≤ side_most p.dimension) (sym (w.sides l lt)) (omega (arith, r.side, side_limit p.dimension));
         }
+
+pub whole_is_reduced : (p : Program) (q : Reduced) (o : List ℤ) → IsProgram p → IsWhole p q → length o ≡ 3 → All (λ x. unsigned_abs x ≤ 4096) o → ((k : ℕ) → p.dimension ≤ k → entry o k ≡ pos 0) → IsReduced q o
+whole_is_reduced p q o h w three small zeros = reduced_by p q o 4096 (objective_limit p.dimension) h w three small zeros
+
+-- in two variables the objective may be that of a program of three, without one
+pub planar_is_reduced : (p : Program) (q : Reduced) (o : List ℤ) → IsProgram p → IsWhole p q → p.dimension ≡ 2 → length o ≡ 3 → All (λ x. unsigned_abs x ≤ 8192) o → ((k : ℕ) → p.dimension ≤ k → entry o k ≡ pos 0) → IsReduced q o
+planar_is_reduced p q o h w two three small zeros = reduced_by p q o 8192 (subst (λ d. 8192 ≤ objective_most d) (sym two) (lit≤ tt)) h w three small zeros
 
 -- ---- the way out
 module _ (p : Program) (q : Reduced) (h : IsProgram p) (w : IsWhole p q) where

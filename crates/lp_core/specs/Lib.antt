@@ -9,6 +9,7 @@ pub mod Reduced
 pub mod Search
 pub mod Sizes
 pub mod Smaller
+pub mod Turned
 pub mod View
 pub mod Whole
 pub mod Wide

@@ -73,7 +73,7 @@ pub struct Tip {
     pub times: i64,
     ghost small_at: { unsigned_abs at ≤ 2 ^ 54 },
     ghost small_den: { unsigned_abs den ≤ 18 },
-    ghost small_times: { unsigned_abs times ≤ 24576 },
+    ghost small_times: { unsigned_abs times ≤ 49152 },
 }
 
 /// An optimum, and the two rows that prove it with their multipliers.

@@ -19,6 +19,7 @@ mod kept;
 mod limits;
 mod pivot;
 mod planar;
+mod plane;
 mod reduced;
 mod search;
 #[cfg(test)]
@@ -27,7 +28,6 @@ mod view;
 mod wide;
 
 use lp_cert::{Dual, Farkas, Multipliers, Rows};
-use reduced::Line;
 use search::Outcome;
 
 /// A vector of fractions `num[i] / den`, with a positive denominator.
@@ -60,10 +60,11 @@ fn outcome(rows: &Rows, objective: [i32; 3]) -> Outcome
     ensures program { IsProgram rows.now }
 {
     if rows.dimension() == 2 {
-        planar::walk(rows, objective)
-    } else {
-        search::searched(rows, objective)
+        if let Some(outcome) = planar::walk(rows, objective) {
+            return outcome;
+        }
     }
+    search::searched(rows, objective)
 }
 
 /// The multipliers that add something, as a certificate. It is kept apart from the programs that have an optimum.

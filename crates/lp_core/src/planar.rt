@@ -13,7 +13,7 @@ ghost use Rattle.std.specs.Prelude.{[], ℕ, ◌*ℤ◌, ◌*◌, ◌+ℤ◌, �
 
 use crate::edge::{Bound, BoxEnd, Cut, Edge, Ends, Half, Spot, Tip};
 use crate::reduced::Optimum;
-use crate::search::{Outcome, only, searched};
+use crate::search::{Outcome, only};
 use lp_cert::{Multipliers, Rows};
 
 /// The greatest side that is taken here.
@@ -185,7 +185,7 @@ impl Ends {
 
     /// The end that is better for an objective.
     fn tip(&self, objective: i64) -> Tip
-        requires { unsigned_abs objective ≤ 24576 }
+        requires { unsigned_abs objective ≤ 49152 }
         ensures { IsPeak (reach_of self.now) objective (peak_of result) }
     {
         if objective < 0 {
@@ -216,9 +216,9 @@ fn placed(place: usize, k: usize, own: i64, other: i64) -> i64
 /// The entry of an objective at a place.
 fn weight(objective: [i32; 3], place: usize) -> i64
     requires inside { place < 3 }
-    requires small { All (λ x. unsigned_abs x ≤ 4096) objective }
+    requires small { All (λ x. unsigned_abs x ≤ 8192) objective }
     ensures value { result ≡ entry objective place }
-    ensures small { unsigned_abs result ≤ 4096 }
+    ensures small { unsigned_abs result ≤ 8192 }
 {
     objective[place] as i64
 }
@@ -257,9 +257,9 @@ impl Edge {
 
     /// What is left of the objective.
     fn rest(&self, objective: [i32; 3]) -> i64
-        requires small { All (λ x. unsigned_abs x ≤ 4096) objective }
+        requires small { All (λ x. unsigned_abs x ≤ 8192) objective }
         ensures value { result ≡ left_objective (pivot_of self.now) objective (1 - self.now.place) }
-        ensures small { unsigned_abs result ≤ 24576 }
+        ensures small { unsigned_abs result ≤ 49152 }
     {
         let own = weight(objective, self.place);
         let other = weight(objective, 1 - self.place);
@@ -367,7 +367,7 @@ impl Edge {
 
     /// The optimum on the edge, from the better end, which is on the given row.
     fn spot(&self, objective: [i32; 3], r: u32, tip: Tip, row: Half) -> Spot
-        requires small { All (λ x. unsigned_abs x ≤ 4096) objective }
+        requires small { All (λ x. unsigned_abs x ≤ 8192) objective }
         ensures { IsSpot self.now objective r tip (half_line row) result }
     {
         let along = difference(tip.den, self.side, self.other, tip.at);
@@ -414,7 +414,7 @@ fn box_end(rows: &Rows, k: u32, times: i64) -> Option<BoxEnd>
     requires program { IsProgram rows.now }
     requires dimension { rows.now.dimension ≡ 2 }
     requires place { k < 2 }
-    requires times { unsigned_abs times ≤ 4096 }
+    requires times { unsigned_abs times ≤ 8192 }
     ensures best { IfSome result (λ e. IsEnd (lines_of rows.now) k times (end_of e)) }
     ensures narrow_upper { IfSome result (λ e. unsigned_abs (line_at (lines_of rows.now) (2 * k)).h ≤ 2 ^ 51) }
     ensures narrow_lower { IfSome result (λ e. unsigned_abs (line_at (lines_of rows.now) (2 * k + 1)).h ≤ 2 ^ 51) }
@@ -442,7 +442,7 @@ fn box_end(rows: &Rows, k: u32, times: i64) -> Option<BoxEnd>
 fn corner(rows: &Rows, objective: [i32; 3]) -> Option<Spot>
     requires program { IsProgram rows.now }
     requires dimension { rows.now.dimension ≡ 2 }
-    requires objective { All (λ x. unsigned_abs x ≤ 4096) objective }
+    requires objective { All (λ x. unsigned_abs x ≤ 8192) objective }
     requires zeros { (k : ℕ) → rows.now.dimension ≤ k → entry objective k ≡ pos 0 }
     ensures best { IfSome result (λ s. IsBest (is_seen (whole_of rows.now).live 4) (whole_of rows.now) objective (optimum_of s)) }
     ensures narrow { IfSome result (λ s. AreNarrow (lines_of rows.now) 4) }
@@ -466,7 +466,7 @@ fn corner(rows: &Rows, objective: [i32; 3]) -> Option<Spot>
 fn on_edge(rows: &Rows, objective: [i32; 3], r: u32, row: Half, old: &Spot) -> Option<Spot>
     requires program { IsProgram rows.now }
     requires dimension { rows.now.dimension ≡ 2 }
-    requires objective { All (λ x. unsigned_abs x ≤ 4096) objective }
+    requires objective { All (λ x. unsigned_abs x ≤ 8192) objective }
     requires zeros { (k : ℕ) → rows.now.dimension ≤ k → entry objective k ≡ pos 0 }
     requires within { r < length rows.now.rows }
     requires boxes { 4 ≤ r }
@@ -494,7 +494,7 @@ fn on_edge(rows: &Rows, objective: [i32; 3], r: u32, row: Half, old: &Spot) -> O
 fn off_edge(rows: &Rows, objective: [i32; 3], r: u32, row: Half, old: &Spot) -> Option<Multipliers>
     requires program { IsProgram rows.now }
     requires dimension { rows.now.dimension ≡ 2 }
-    requires objective { All (λ x. unsigned_abs x ≤ 4096) objective }
+    requires objective { All (λ x. unsigned_abs x ≤ 8192) objective }
     requires zeros { (k : ℕ) → rows.now.dimension ≤ k → entry objective k ≡ pos 0 }
     requires within { r < length rows.now.rows }
     requires boxes { 4 ≤ r }
@@ -519,50 +519,26 @@ fn off_edge(rows: &Rows, objective: [i32; 3], r: u32, row: Half, old: &Spot) -> 
     None
 }
 
-/// What a program comes to if the edge of a row that the optimum so far breaks has no optimum.
-#[inline(never)]
-fn off(rows: &Rows, objective: [i32; 3], r: u32, row: Half, old: &Spot) -> Outcome
-    requires program { IsProgram rows.now }
+/// What a program of two variables comes to, unless a side is too large for 64 bits or the box is empty.
+pub fn walk(rows: &Rows, objective: [i32; 3]) -> Option<Outcome>
     requires dimension { rows.now.dimension ≡ 2 }
-    requires objective { All (λ x. unsigned_abs x ≤ 4096) objective }
+    requires objective { All (λ x. unsigned_abs x ≤ 8192) objective }
     requires zeros { (k : ℕ) → rows.now.dimension ≤ k → entry objective k ≡ pos 0 }
-    requires within { r < length rows.now.rows }
-    requires boxes { 4 ≤ r }
-    requires narrow { AreNarrow (lines_of rows.now) r }
-    requires row { half_line row ≡ line_at (lines_of rows.now) r }
-    requires best { IsBest (is_seen (whole_of rows.now).live r) (whole_of rows.now) objective (optimum_of old.now) }
-    requires broken { ((half_line row).h *ℤ old.now.den) <ℤ along (half_line row).c (spot_num old.now) }
-    ensures { IsOutcome all_seen (whole_of rows.now) objective result }
+    ensures { IfSome result (IsOutcome all_seen (whole_of rows.now) objective) }
 {
-    match off_edge(rows, objective, r, row, old) {
-        Some(items) => Outcome::Infeasible(items),
-        None => searched(rows, objective),
-    }
-}
-
-/// What a program of two variables comes to. Where a side is too large for 64 bits or the box is empty, the search in 128 bits
-/// says it.
-pub fn walk(rows: &Rows, objective: [i32; 3]) -> Outcome
-    requires program { IsProgram rows.now }
-    requires dimension { rows.now.dimension ≡ 2 }
-    requires objective { All (λ x. unsigned_abs x ≤ 4096) objective }
-    requires zeros { (k : ℕ) → rows.now.dimension ≤ k → entry objective k ≡ pos 0 }
-    ensures { IsOutcome all_seen (whole_of rows.now) objective result }
-{
-    let Some(corner) = corner(rows, objective) else {
-        return searched(rows, objective);
-    };
-    let mut spot = corner;
-    for r in 4..rows.len() {
-        let Some(row) = half_at(rows, r) else {
-            return searched(rows, objective);
-        };
+    let count = rows.len();
+    let mut spot = corner(rows, objective)?;
+    for r in 4..count {
+        let row = half_at(rows, r)?;
         if !spot.meets(row) {
             let Some(next) = on_edge(rows, objective, r, row, &spot) else {
-                return off(rows, objective, r, row, &spot);
+                return match off_edge(rows, objective, r, row, &spot) {
+                    Some(items) => Some(Outcome::Infeasible(items)),
+                    None => None,
+                };
             };
             spot = next;
         }
     }
-    Outcome::Best(spot.optimum())
+    Some(Outcome::Best(spot.optimum()))
 }

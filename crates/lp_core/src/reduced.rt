@@ -1,4 +1,4 @@
-//! Programs some of whose variables have been eliminated.
+//! Rows, objectives and optima in 128 bits, in all variables or in fewer.
 
 ghost use Rattle.lp_cert.specs.Program.{IsProgram, axis, entry};
 ghost use Rattle.lp_core.specs.Lines.{along, is_seen, line_at};

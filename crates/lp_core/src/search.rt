@@ -15,7 +15,7 @@ use crate::elimination::pivot_of;
 use crate::pivot::Pivot;
 use crate::reduced::{Line, Optimum, meets, widened};
 use crate::view::{View, whole};
-use crate::wide;
+use crate::{plane, wide};
 use lp_cert::{Multipliers, Rows};
 
 /// What a program comes to.
@@ -159,7 +159,10 @@ fn inner(program: &View, objective: [i128; 3], pivot: &Pivot, r: u32) -> Outcome
 {
     match other_of(program.live(), pivot.place) {
         Some(k) => wide::solved(program, objective, pivot, k, r),
-        None => solved(&program.without(pivot, r), pivot.rest(objective)),
+        None => match plane::walked(program.rows(), objective, pivot, r) {
+            Some(outcome) => outcome,
+            None => solved(&program.without(pivot, r), pivot.rest(objective)),
+        },
     }
 }
 

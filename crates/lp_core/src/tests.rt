@@ -256,13 +256,26 @@ fn programs_in_three_variables(rt: HostRuntime) {
     );
     cube.add(row_of([-1, -1, -1], -2));
     assert!(rt; has_value(&solve(&cube, [1, 1, 1]), None), "no point");
-    let large = Rows::boxed(&[LARGE, LARGE, LARGE], &[LARGE, LARGE, LARGE]);
+    let mut large = Rows::boxed(&[LARGE, LARGE, LARGE], &[LARGE, LARGE, LARGE]);
     assert!(rt;
         has_value(
             &solve(&large, [4096, -4096, 4096]),
             Some((12288 * LARGE, 1))
         ),
         "the largest sides"
+    );
+    large.add(row_of([1, 1, 0], LARGE));
+    large.add(row_of([0, 1, 1], LARGE));
+    large.add(row_of([1, 0, 1], LARGE));
+    assert!(rt;
+        has_value(&solve(&large, [1, 1, 1]), Some((3 * LARGE, 2))),
+        "a point of halves in the largest box"
+    );
+    large.add(row_of([-1, -1, 0], -LARGE));
+    large.add(row_of([0, 0, -1], -LARGE));
+    assert!(rt;
+        has_value(&solve(&large, [1, 1, 1]), None),
+        "no point of the largest box"
     );
 }
 

@@ -93,6 +93,16 @@ impl<'a> View<'a> {
         }
     }
 
+    /// The rows of a program of three variables.
+    pub fn rows(&self) -> &'a Rows
+        requires { (k : ℕ) → k < 3 → slice_index_or self.now.live k false ≡ true }
+        ensures value { whole_of result.now ≡ self.now }
+        ensures program { IsProgram result.now }
+        ensures dimension { result.now.dimension ≡ 3 }
+    {
+        self.rows
+    }
+
     /// The program of three variables without that of a pivot, of the rows that were seen before row `r`.
     pub fn without(&self, pivot: &Pivot, r: u32) -> View<'a>
         requires all { (k : ℕ) → k < 3 → slice_index_or self.now.live k false ≡ true }

@@ -10,7 +10,7 @@ use Rattle.lp_core.specs.Search.{IsReduced}
 use Rattle.lp_core.specs.Planar.{AreNarrow, end_of, lines_of, whole_of}
 use Rattle.lp_core.proofs.Edges.{corner_two}
 use Rattle.lp_core.proofs.Halves.{whole_is}
-use Rattle.lp_core.proofs.Wholes.{whole_is_reduced}
+use Rattle.lp_core.proofs.Wholes.{planar_is_reduced}
 use Rattle.lp_core.proofs.planar.corner.Goals as goal
 
 pub returns-clause-best : goal.returns-clause-best
@@ -20,7 +20,7 @@ returns-clause-best c =
     let a = c.in_ok-first.first in
     let b = c.in_ok-second.second in
     let three : length c.args.objective ≡ 3 = search rules in
-    let reduced : IsReduced (whole_of p) o = whole_is_reduced p (whole_of p) o c.requires.program (whole_is p) three c.requires.objective c.requires.zeros in
+    let reduced : IsReduced (whole_of p) o = planar_is_reduced p (whole_of p) o c.requires.program (whole_is p) c.requires.dimension three c.requires.objective c.requires.zeros in
     let f1 : FitsSigned w64 c.weight.result = record { sfits = c.weight.type_inv } in
     let f2 : FitsSigned w64 c.weight-2.result = record { sfits = c.weight-2.type_inv } in
     let f3 : FitsSigned w64 c.in_ok-first.first.at = search rules in

@@ -13,7 +13,7 @@ use Rattle.lp_core.specs.Planar.{AreEnds, farkas_of, half_line, lines_of, optimu
 use Rattle.lp_core.proofs.Back.{only_empty}
 use Rattle.lp_core.proofs.Halves.{whole_count, whole_is}
 use Rattle.lp_core.proofs.Edges.{edge_apart, edge_crossed, edge_empty}
-use Rattle.lp_core.proofs.Wholes.{whole_is_reduced}
+use Rattle.lp_core.proofs.Wholes.{planar_is_reduced}
 use Rattle.lp_core.proofs.planar.off_edge.Goals as goal
 
 pub returns-in_default : goal.returns-in_default
@@ -35,7 +35,7 @@ returns-in-Err c =
     let k = 1 - e.place in
     let lines = lines_of p in
     let three : length c.args.objective ≡ 3 = search rules in
-    let reduced : IsReduced (whole_of p) o = whole_is_reduced p (whole_of p) o c.requires.program (whole_is p) three c.requires.objective c.requires.zeros in
+    let reduced : IsReduced (whole_of p) o = planar_is_reduced p (whole_of p) o c.requires.program (whole_is p) c.requires.dimension three c.requires.objective c.requires.zeros in
     let same : e.row ≡ c.args.row = c.in-Some.ensures in
     let line : half_line e.row ≡ line_at lines c.args.r = ap half_line same ∙ c.requires.row in
     let broken = subst (λ (x : Half). ((half_line x).h *ℤ c.args.old.now.den) <ℤ along (half_line x).c (spot_num c.args.old.now)) (sym same) c.requires.broken in
@@ -61,7 +61,7 @@ returns-then-cross c =
     let k = 1 - e.place in
     let lines = lines_of p in
     let three : length c.args.objective ≡ 3 = search rules in
-    let reduced : IsReduced (whole_of p) o = whole_is_reduced p (whole_of p) o c.requires.program (whole_is p) three c.requires.objective c.requires.zeros in
+    let reduced : IsReduced (whole_of p) o = planar_is_reduced p (whole_of p) o c.requires.program (whole_is p) c.requires.dimension three c.requires.objective c.requires.zeros in
     let same : e.row ≡ c.args.row = c.in-Some.ensures in
     let line : half_line e.row ≡ line_at lines c.args.r = ap half_line same ∙ c.requires.row in
     let broken = subst (λ (x : Half). ((half_line x).h *ℤ c.args.old.now.den) <ℤ along (half_line x).c (spot_num c.args.old.now)) (sym same) c.requires.broken in

@@ -11,7 +11,7 @@ use Rattle.lp_core.specs.Bounds.{IsPeak, left_objective}
 use Rattle.lp_core.proofs.Halves.{whole_is}
 use Rattle.lp_core.proofs.Edges.{edge_best}
 use Rattle.lp_core.proofs.Ends.{tip_on}
-use Rattle.lp_core.proofs.Wholes.{whole_is_reduced}
+use Rattle.lp_core.proofs.Wholes.{planar_is_reduced}
 use Rattle.lp_core.proofs.planar.on_edge.Goals as goal
 
 never : {A : Type 0} → false ≡ true → A
@@ -25,7 +25,7 @@ returns c =
     let ends = c.in-Ok.ends in
     let t = c.tip-tip.result in
     let three : length c.args.objective ≡ 3 = search rules in
-    let reduced : IsReduced (whole_of p) o = whole_is_reduced p (whole_of p) o c.requires.program (whole_is p) three c.requires.objective c.requires.zeros in
+    let reduced : IsReduced (whole_of p) o = planar_is_reduced p (whole_of p) o c.requires.program (whole_is p) c.requires.dimension three c.requires.objective c.requires.zeros in
     let same : e.row ≡ c.args.row = c.in_ok-edge.ensures in
     let line : half_line e.row ≡ line_at (lines_of p) c.args.r = ap half_line same ∙ c.requires.row in
     let f1 : FitsSigned w64 c.rest.result = record { sfits = c.rest.type_inv } in

@@ -89,8 +89,8 @@ inner-rest-requires-clause-own t c = small_line c.args.program.now c.args.object
 pub inner-rest-requires-clause-small : goal.inner-rest-requires-clause-small
 inner-rest-requires-clause-small t c = objective_fits (level c.args.program.now.live) c.args.objective c.requires.reduced.objective
 
-pub inner-solved-requires-in-None : goal.inner-solved-requires-in-None
-inner-solved-requires-in-None t c =
+pub inner-solved-requires-in-None-walked : goal.inner-solved-requires-in-None-walked
+inner-solved-requires-in-None-walked t c =
     let P = c.args.program.now in
     let o = c.args.objective in
     let r = c.args.r in
@@ -102,11 +102,6 @@ inner-solved-requires-in-None t c =
     let same : level c.without.result.live ≡ level Q.live = ap (λ (q : Reduced). level q.live) c.without.ensures in
     let fall : 4 * level c.without.result.live + 3 < t = omega (arith, c.decreases, one, same) in
     (fall, subst (λ (q : Reduced). IsReduced q c.rest.result) (sym c.without.ensures) (subst (λ xs. IsReduced Q xs) (sym c.rest.ensures) (smaller_is_reduced P o r p Q rest s)))
-
-pub inner-returns-in-None : goal.inner-returns-in-None
-inner-returns-in-None t c =
-    subst (λ xs. IsOutcome all_seen (smaller c.args.pivot.now c.args.program.now c.args.r) xs c.solved-in-None.result) c.rest.ensures
-    (subst (λ (q : Reduced). IsOutcome all_seen q c.rest.result c.solved-in-None.result) c.without.ensures c.solved-in-None.ensures)
 
 pub inner-without-requires-clause-all : goal.inner-without-requires-clause-all
 inner-without-requires-clause-all t c =

@@ -35,5 +35,5 @@ returns-clause-small c =
     let f5 : FitsSigned w64 c.args.self.now.size = search rules in
     let f6 : FitsSigned w64 c.difference.result = record { sfits = c.difference.type_inv } in
     let d = simp to_z-of_z at c.difference.ensures in
-    let s = difference_within e.size c.weight-other.result e.other c.weight-own.result 3 4096 3 4096 e.small_size c.weight-other.ensures.small e.small_other c.weight-own.ensures.small in
-    simp to_z-of_z (subst (λ z. unsigned_abs z ≤ 24576) (sym d) s)
+    let s = difference_within e.size c.weight-other.result e.other c.weight-own.result 3 8192 3 8192 e.small_size c.weight-other.ensures.small e.small_other c.weight-own.ensures.small in
+    simp to_z-of_z (subst (λ z. unsigned_abs z ≤ 49152) (sym d) s)

@@ -37,7 +37,7 @@ signed-requires c =
     let f4 : FitsSigned w64 c.args.tip.times = search rules in
     let f5 : FitsSigned w64 c.weight-weight.result = record { sfits = c.weight-weight.type_inv } in
     let d = simp to_z-of_z at c.difference.ensures in
-    let s = difference_within t.den c.weight-weight.result c.at-own.result t.times 18 4096 3 24576 t.small_den c.weight-weight.ensures.small c.at-own.ensures.small t.small_times in
+    let s = difference_within t.den c.weight-weight.result c.at-own.result t.times 18 8192 3 49152 t.small_den c.weight-weight.ensures.small c.at-own.ensures.small t.small_times in
     let small : unsigned_abs c.difference.result ≤ 2 ^ 57 = subst (λ z. unsigned_abs z ≤ 2 ^ 57) (sym d) (omega (arith, s)) in
     simp to_z-of_z small
 
