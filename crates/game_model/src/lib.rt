@@ -6,6 +6,6 @@ mod list;
 mod parts;
 pub mod worked;
 
-pub use game::Game;
+pub use game::{Game, list_fault};
 pub use list::List;
 pub use parts::{GameParts, ShapeFault, ShapeWhat};
