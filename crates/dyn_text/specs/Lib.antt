@@ -1,3 +1,5 @@
+pub mod Assembled
+pub mod BuildFaults
 pub mod Canonical
 pub mod Grammar
 pub mod Single

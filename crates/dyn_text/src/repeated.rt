@@ -1,6 +1,10 @@
 //! A repeated game as a dynamic game of one state.
 
-ghost use Rattle.std.specs.Prelude.{◌≡◌, ◌/◌, ◌++◌, [], length, replicate, IfOk};
+ghost use Rattle.std.specs.Prelude.{◌≡◌, ◌/◌, ◌∷◌, ◌++◌, [], length, replicate, IfOk};
+ghost use Rattle.nfg_text.specs.declared.nfg.Nfg.{Nfg};
+ghost use Rattle.nfg_text.specs.ReadGame.{IsReadGame};
+ghost use Rattle.game_model.specs.Parts.{HasNoFault};
+ghost use Rattle.dyn_text.specs.Assembled.{shape_of_texts, AreTexts};
 ghost use Rattle.dyn_text.specs.Single.{single_of};
 
 use crate::file_name::FileName;
@@ -42,3 +46,8 @@ fn zeros(alloc: Global, count: u32) -> Result<List<u32>, AllocError>
     }
     Ok(zeros)
 }
+
+/// A law: the one state fits each game that was read, so its shape has no fault.
+pub fn single_fits()
+    ensures { (n : Nfg) → IsReadGame n → AreTexts (single_of n) (n ∷ []) × HasNoFault (shape_of_texts (single_of n) (n ∷ [])) }
+{}

@@ -227,8 +227,9 @@ fn fault_in(parts: &GameParts, s: u32) -> Option<ShapeFault>
     )
 }
 
-/// The first test that the lists of state `s` fail.
-fn list_fault(
+/// The first test that the lists of state `s` fail: one count for each player, one payoff for each profile and
+/// player, one successor for each profile, each successor below `states`. `payoffs` is how many there are.
+pub fn list_fault(
     players: u32,
     states: u64,
     s: u32,

@@ -5,6 +5,6 @@ mod game;
 mod parts;
 pub mod worked;
 
-pub use game::Game;
+pub use game::{Game, list_fault};
 pub use lists::List;
 pub use parts::{GameParts, ShapeFault, ShapeWhat};
