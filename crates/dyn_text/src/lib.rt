@@ -12,7 +12,7 @@ pub use file_name::FileName;
 pub use reading::read_dyn;
 pub use repeated::single;
 pub use transitions::{Dyn, DynState};
-pub use worked::faults_of_files;
+pub use worked::{faults_of_files, writable_transitions};
 pub use writing::write_dyn;
 
 #[cfg(test)]

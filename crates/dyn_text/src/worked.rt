@@ -2,6 +2,7 @@
 
 ghost use Rattle.std.specs.Prelude.{◌≡◌, [], ◌∷◌, ◌++◌, codes, pos, Ok, Err};
 ghost use Rattle.dyn_text.specs.Grammar.{dyn_of};
+ghost use Rattle.dyn_text.specs.Writable.{IsWritable};
 ghost use Rattle.nfg_text.specs.declared.fault.NfgFault.TheVariants.{Bad, Limit};
 ghost use Rattle.nfg_text.specs.declared.what.What.TheVariants.{Digits, Whole};
 
@@ -14,4 +15,9 @@ pub fn faults_of_files()
     ensures longer { dyn_of (codes "DYN 1 \"x\" { { \"a\" \"b\" { 0 } } } }") ≡ Err (Bad 32) }
     ensures large { dyn_of (codes "DYN 1 \"x\" { { \"a\" \"b\" { 4294967296 } } }") ≡ Err (Limit Whole (pos 4294967296) 24) }
     ensures sign { dyn_of (codes "DYN 1 \"x\" { { \"a\" \"b\" { 0 -1 } } }") ≡ Err (Bad 26) }
+{}
+
+/// A law: transitions of two states can be written.
+pub fn writable_transitions()
+    ensures { IsWritable (record { title = codes "two"; states = record { name = codes "good"; file = codes "pd.nfg"; next = 0 ∷ 1 ∷ 1 ∷ 1 ∷ [] } ∷ record { name = codes "bad"; file = codes "nil.nfg"; next = 1 ∷ [] } ∷ [] }) }
 {}

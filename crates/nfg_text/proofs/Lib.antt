@@ -1,6 +1,9 @@
+pub mod Decimals
 pub mod Loops
 pub mod Parts
+pub mod Round
 pub mod Shorter
 pub mod Spelled
 pub mod Steps
 pub mod Whole
+pub mod Written

@@ -5,3 +5,4 @@ pub mod Reading
 pub mod ReadingViews
 pub mod Worked
 pub mod Wanted
+pub mod Writable

@@ -15,7 +15,7 @@ pub mod writing;
 pub use nfg::{Nfg, NfgFault, Strategies};
 pub use reading::read_nfg;
 pub use what::What;
-pub use worked::{faults_of_files, plain_file};
+pub use worked::{faults_of_files, plain_file, writable_game};
 
 #[cfg(test)]
 mod gambit_tests;

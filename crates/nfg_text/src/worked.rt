@@ -5,6 +5,7 @@ ghost use Rattle.nfg_text.specs.declared.nfg.Nfg.{Nfg};
 ghost use Rattle.nfg_text.specs.PlainFile.{IsPlainFile};
 ghost use Rattle.nfg_text.specs.Worked.{prisoners_dilemma};
 ghost use Rattle.nfg_text.specs.Grammar.{nfg_of};
+ghost use Rattle.nfg_text.specs.Writable.{IsWritable};
 ghost use Rattle.nfg_text.specs.declared.fault.NfgFault.TheVariants.{Bad, Limit};
 ghost use Rattle.nfg_text.specs.declared.what.What.TheVariants.{Digits, Players};
 
@@ -26,4 +27,9 @@ pub fn faults_of_files()
     ensures no_outcome { nfg_of (codes "NFG 1 R \"\" { \"1\" \"2\" } { 1 1 } { { \"x\" 5 5 } } 2") ≡ Err (Bad 47) }
     ensures third { nfg_of (codes "NFG 1 R \"\" { \"1\" \"2\" \"3\" } { 1 1 } 0 0") ≡ Err (Limit Players (pos 3) 21) }
     ensures digits { nfg_of (codes "NFG 1 R \"\" { \"1\" \"2\" } { 1 1 } 1111111111111111111111111111111111111 0") ≡ Err (Limit Digits (pos 37) 31) }
+{}
+
+/// A law: the prisoner's dilemma can be written.
+pub fn writable_game()
+    ensures { IsWritable prisoners_dilemma }
 {}
