@@ -3,7 +3,6 @@ use Rattle.std.proofs.Common.{◌≡◌, ◌≢◌, ℕ, zero, suc, ◌+◌, ◌
 use Rattle.std.specs.List.{flat_map}
 use Rattle.std.specs.Option.{option_map}
 use Rattle.std.specs.Str.{is_utf8}
-use Rattle.pay_frac.specs.Number.{whole_of}
 use Rattle.token_text.specs.Tokens.{Token, Kind, open_brace, close_brace, quoted, word, ended, Stream, next, rest, stream_of}
 use Rattle.token_text.specs.Quoted.{quoted_text, IsText}
 use Rattle.token_text.proofs.Written.{written, Begins, ends_word, whole_text, blank_written, open_written, close_written, word_written}
@@ -198,7 +197,8 @@ whole_read d at h =
     let open_is : open_at (written title.0 (codes " {\n" ++ lines)) ≡ Ok (written (open_.0 + 1) lines) = open_.1 ∙ ap (λ s. Ok s) (blank_written open_.0 10 lines refl) in
     let states_is = states.1 in
     let end_is = ap end_at (blank_written states.0 10 [] refl) ∙ end_passed (states.0 + 1) in
-    let shape = append_assoc (quoted_text d.title ++ codes " {\n") (flat_map state_line d.states) (codes "}\n") ∙ append_assoc (quoted_text d.title) (codes " {\n") lines in
+    let shape : ((quoted_text d.title ++ codes " {\n") ++ flat_map state_line d.states) ++ codes "}\n" ≡ title_ =
+    append_assoc (quoted_text d.title ++ codes " {\n") (flat_map state_line d.states) (codes "}\n") ∙ append_assoc (quoted_text d.title) (codes " {\n") lines in
     ap (λ l. file_at (written at (codes "DYN 1 " ++ l))) shape ∙ rw (dyn_is, one_is, title_is, open_is, states_is, end_is) refl
 
 pub dyn_again : (d : Dyn) → IsWritable d → dyn_of (canonical d) ≡ Ok d
