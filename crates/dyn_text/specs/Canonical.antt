@@ -1,7 +1,8 @@
 -- The canonical text of a transition file: a line for the title, one for each state, and the close brace on the last.
 use Rattle.std.specs.Prelude.{ℕ, List, ◌∷◌, ◌++◌, codes}
 use Rattle.std.specs.List.{flat_map}
-use Rattle.nfg_text.specs.Canonical.{quoted_text, counts_text, braced}
+use Rattle.token_text.specs.Quoted.{quoted_text}
+use Rattle.nfg_text.specs.Canonical.{counts_text, braced}
 use Rattle.dyn_text.specs.declared.transitions.Dyn.{Dyn}
 use Rattle.dyn_text.specs.declared.transitions.DynState.{DynState}
 

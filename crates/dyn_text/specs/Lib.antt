@@ -3,3 +3,4 @@ pub mod BuildFaults
 pub mod Canonical
 pub mod Grammar
 pub mod Single
+pub mod Writable

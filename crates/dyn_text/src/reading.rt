@@ -10,7 +10,7 @@ use crate::file_name::{FileName, file_name};
 use crate::transitions::{Dyn, DynState};
 use game_model::List;
 use nfg_text::What;
-use nfg_text::gambit::NfgFault;
+use nfg_text::NfgFault;
 use nfg_text::wants::{close, end, exact, limited, open, quoted, quoted_text, whole};
 use std::alloc::Global;
 use token_text::{Lexeme, LexemeKind, Lexer};

@@ -3,6 +3,7 @@
 ghost use Rattle.std.specs.Prelude.{◌≡◌, ◌≤◌, [], ◌∷◌, ◌++◌, ℕ, List, codes, length, pos, Ok, Err};
 ghost use Rattle.dyn_text.specs.declared.transitions.Dyn.{Dyn};
 ghost use Rattle.dyn_text.specs.Grammar.{dyn_of};
+ghost use Rattle.dyn_text.specs.Writable.{IsWritable};
 ghost use Rattle.nfg_text.specs.declared.fault.NfgFault.TheVariants.{Bad, Limit};
 ghost use Rattle.nfg_text.specs.declared.what.What.TheVariants.{Digits, Whole};
 
@@ -20,4 +21,9 @@ pub fn faults_of_files()
 /// A law: whatever a text has is 1 to 64 states.
 pub fn files_have_states()
     ensures { (bytes : List ℕ) (d : Dyn) → dyn_of bytes ≡ Ok d → (1 ≤ length d.states) × (length d.states ≤ 64) }
+{}
+
+/// A law: transitions of two states can be written.
+pub fn writable_transitions()
+    ensures { IsWritable (record { title = codes "two"; states = record { name = codes "good"; file = codes "pd.nfg"; next = 0 ∷ 1 ∷ 1 ∷ 1 ∷ [] } ∷ record { name = codes "bad"; file = codes "nil.nfg"; next = 1 ∷ [] } ∷ [] }) }
 {}

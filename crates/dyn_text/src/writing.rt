@@ -1,9 +1,11 @@
 //! Transition files in their canonical form.
 
-ghost use Rattle.std.specs.Prelude.{◌≡◌, ◌++◌, ◌∷◌, [], ℕ, codes, OnOk, IfOk};
+ghost use Rattle.std.specs.Prelude.{◌≡◌, ◌++◌, ◌∷◌, [], ℕ, codes, Ok, OnOk, IfOk};
 ghost use Rattle.std.specs.List.{flat_map};
-ghost use Rattle.nfg_text.specs.Canonical.{quoted_text};
+ghost use Rattle.token_text.specs.Quoted.{quoted_text};
 ghost use Rattle.dyn_text.specs.Canonical.{canonical, state_line};
+ghost use Rattle.dyn_text.specs.Grammar.{dyn_of};
+ghost use Rattle.dyn_text.specs.Writable.{IsWritable};
 
 use crate::file_name::FileName;
 use crate::transitions::{Dyn, DynState};
@@ -12,12 +14,20 @@ use nfg_text::writing::{counts, put_all, quoted};
 use std::alloc::{AllocError, Global};
 use token_text::{Text, put};
 
-/// The canonical text of a transition file.
+/// The canonical text of a transition file. The grammar reads it as the same transitions, where a file can have them.
 ///
 /// # Errors
 ///
 /// Want of memory, which here also is a text of 2^32 bytes or more.
 pub fn write_dyn(alloc: Global, dynamic: &Dyn) -> Result<Text, AllocError>
+    ensures text { IfOk result (λ t. t ≡ canonical dynamic.now) }
+    ensures again { IfOk result (λ t. IsWritable dynamic.now → dyn_of t ≡ Ok dynamic.now) }
+{
+    canonical_text(alloc, dynamic)
+}
+
+/// The text, line by line.
+fn canonical_text(alloc: Global, dynamic: &Dyn) -> Result<Text, AllocError>
     ensures { IfOk result (λ t. t ≡ canonical dynamic.now) }
 {
     let mut out = List::new(alloc);

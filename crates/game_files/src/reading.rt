@@ -15,10 +15,10 @@ ghost use Rattle.nfg_text.specs.Wanted.{Gives};
 use crate::fault::{FileId, GameFault};
 use crate::first::First;
 use crate::loading::{LONGEST_FILE, load};
-use dyn_text::{BuildFault, Dyn, assemble, read_dyn, single};
+use dyn_text::{BuildFault, Dyn, assemble, files_have_states, read_dyn, single};
 use game_model::Game;
-use nfg_text::Nfg;
-use nfg_text::gambit::{NfgFault, read_nfg};
+use nfg_text::{Nfg, NfgFault, read_games_keep_their_form, read_nfg};
+
 use pay_frac::Frac;
 use pay_outside::Shelf;
 use std::alloc::{AllocError, Global};
@@ -195,6 +195,8 @@ pub fn read_game<S: Shelf>(
     ensures same_bytes { (n : List ℕ) → S.bytes shelf.new n ≡ S.bytes shelf.old n }
     ensures same_names { (n : List ℕ) → (S.may_ask shelf.new n ↔ S.may_ask shelf.old n) }
 {
+    read_games_keep_their_form();
+    files_have_states();
     let files = read_files(alloc, shelf, name)?;
     match assemble(alloc, &files.dynamic, &files.games, discount) {
         Ok(game) => Ok(game),

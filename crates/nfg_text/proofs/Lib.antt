@@ -1,7 +1,6 @@
+pub mod Decimals
 pub mod Kept
 pub mod Loops
-pub mod Parts
+pub mod Round
 pub mod Shorter
-pub mod Spelled
-pub mod Steps
-pub mod Whole
+pub mod Written

@@ -1,19 +1,13 @@
 -- The canonical text of a game: one blank between tokens, the head on one line, a comment on its own, the payoffs on the last.
-use Rattle.std.specs.Prelude.{ℕ, ◌==◌, if◌then◌else◌, List, [], ◌∷◌, ◌++◌, codes, decimal, Option, Some, None, pos}
+use Rattle.std.specs.Prelude.{ℕ, if◌then◌else◌, List, [], ◌∷◌, ◌++◌, codes, decimal, Option, Some, None, pos}
 use Rattle.std.specs.List.{flat_map}
 use Rattle.std.specs.Fmt.{signed_decimal}
 use Rattle.std.specs.Ordering.{int_eq}
 use Rattle.pay_frac.specs.Ratio.{Ratio}
+use Rattle.token_text.specs.Quoted.{quoted_text}
 use Rattle.nfg_text.specs.declared.nfg.Nfg.{Nfg}
 use Rattle.nfg_text.specs.declared.nfg.Strategies.{Strategies}
 use Rattle.nfg_text.specs.declared.nfg.Strategies.TheVariants.{Counts, Names}
-
--- a backslash before each quote
-abbrev pub escaped : List ℕ → List ℕ
-escaped ts = flat_map (λ b. if b == 34 then 92 ∷ 34 ∷ [] else b ∷ []) ts
-
-abbrev pub quoted_text : List ℕ → List ℕ
-quoted_text t = 34 ∷ escaped t ++ 34 ∷ []
 
 -- `n` or `n/d`
 abbrev pub ratio_text : Ratio → List ℕ

@@ -5,7 +5,7 @@ ghost use Rattle.nfg_text.specs.Wanted.{Reads, Passes, Gives, many_at, times_at,
 ghost use Rattle.nfg_text.specs.Grammar.{tag_at, title_at, player_at, two_at, players_at, count_at, counts_at, full_at, sixteen_past, name_or_close_at, names_at, both_names_at, strategies_at, profiles_of, comment_at, body_at, file_at, nfg_of};
 ghost use Rattle.token_text.specs.Tokens.{unescaped};
 
-pub use crate::fault::NfgFault;
+use crate::fault::NfgFault;
 use crate::nfg::{Nfg, Strategies};
 use crate::outcomes::chosen;
 use crate::wants::{

@@ -2,22 +2,19 @@
 #![tactic(auto)]
 
 mod fault;
-pub mod gambit;
+mod gambit;
 mod nfg;
-mod numbers;
 pub mod outcomes;
-mod reading;
 pub mod wants;
 mod what;
 mod worked;
 pub mod writing;
 
-pub use nfg::{Nfg, NfgFault, Strategies};
-pub use reading::read_nfg;
+pub use fault::NfgFault;
+pub use gambit::read_nfg;
+pub use nfg::{Nfg, Strategies};
 pub use what::What;
-pub use worked::{faults_of_files, plain_file, read_games_keep_their_form};
+pub use worked::{faults_of_files, read_games_keep_their_form, writable_game};
 
-#[cfg(test)]
-mod gambit_tests;
 #[cfg(test)]
 mod tests;

@@ -1,60 +1,362 @@
-use crate::{Nfg, NfgFault, Strategies, read_nfg};
+use crate::What;
+use crate::{NfgFault, read_nfg};
+use crate::writing::write_nfg;
 use game_model::List;
 use pay_frac::Frac;
 use std::alloc::Global;
-use token_text::Text;
+
+enum Wanted {
+    /// Numerators and denominators.
+    Payoffs(&'static [(i128, i128)]),
+    Fault(NfgFault),
+}
 
 struct Row {
     file: &'static [u8],
-    title: &'static [u8],
-    counts: (u32, u32),
-    payoffs: &'static [i128],
+    wanted: Wanted,
 }
 
-const PLAIN: [Row; 4] = [
+const ROWS: [Row; 49] = [
     Row {
         file: b"NFG 1 R \"PD\" { \"1\" \"2\" } { 2 2 } 2 2 3 0 0 3 1 1",
-        title: b"PD",
-        counts: (2, 2),
-        payoffs: &[2, 2, 3, 0, 0, 3, 1, 1],
+        wanted: Wanted::Payoffs(&[
+            (2, 1),
+            (2, 1),
+            (3, 1),
+            (0, 1),
+            (0, 1),
+            (3, 1),
+            (1, 1),
+            (1, 1),
+        ]),
     },
     Row {
-        file: b"NFG 1 R \"MP\" { \"1\" \"2\" } { 2 2 } 1 -1 -1 1 -1 1 1 -1",
-        title: b"MP",
-        counts: (2, 2),
-        payoffs: &[1, -1, -1, 1, -1, 1, 1, -1],
+        file: b"NFG 1 R \"PD\" { \"1\" \"2\" } { { \"C\" \"D\" } { \"C\" \"D\" } } \"a comment\" { { \"both\" 2, 2 } { \"a\" 3, 0 } { \"b\" 0, 3 } { \"none\" 1, 1 } } 1 2 3 4",
+        wanted: Wanted::Payoffs(&[
+            (2, 1),
+            (2, 1),
+            (3, 1),
+            (0, 1),
+            (0, 1),
+            (3, 1),
+            (1, 1),
+            (1, 1),
+        ]),
     },
     Row {
-        file: b"NFG 1 R \"Selten (IJGT, 75), Figure 2, normal form\" { \"Player 1\" \"Player 2\" } { 3 2 } 1 1 0 2 0 2 1 1 0 3 2 0",
-        title: b"Selten (IJGT, 75), Figure 2, normal form",
-        counts: (3, 2),
-        payoffs: &[1, 1, 0, 2, 0, 2, 1, 1, 0, 3, 2, 0],
+        file: b"NFG 1 D \"Selten (IJGT, 75), Figure 2, normal form\" { \"Player 1\" \"Player 2\" } { 3 2 } 1 1 0 2 0 2 1 1 0 3 2 0\n",
+        wanted: Wanted::Payoffs(&[
+            (1, 1),
+            (1, 1),
+            (0, 1),
+            (2, 1),
+            (0, 1),
+            (2, 1),
+            (1, 1),
+            (1, 1),
+            (0, 1),
+            (3, 1),
+            (2, 1),
+            (0, 1),
+        ]),
     },
     Row {
-        file: b"NFG 1 D\"\\\"q\\\"\"{\"\" \"b\\\"\"}{1,1},-0,-67108864\n",
-        title: b"\"q\"",
-        counts: (1, 1),
-        payoffs: &[0, -67108864],
+        file: b"NFG 1 R \"z\" { \"1\" \"2\" } { 1 1 } { { \"x\" 5, 5 } } 0",
+        wanted: Wanted::Payoffs(&[(0, 1), (0, 1)]),
+    },
+    Row {
+        file: b"NFG 1 R \"z\" { \"1\" \"2\" } { 1 1 } { { \"x\" 5, 5 } } 2",
+        wanted: Wanted::Fault(NfgFault::Bad { at: 49 }),
+    },
+    Row {
+        file: b"NFG 1 R \"\" { \"1\" \"2\" } { 1 1 } -.5 0.10",
+        wanted: Wanted::Payoffs(&[(-1, 2), (1, 10)]),
+    },
+    Row {
+        file: b"NFG 1 R\"a\\\"b\"{\"\"\"2\"}{1,01},6/4,-1.",
+        wanted: Wanted::Payoffs(&[(3, 2), (-1, 1)]),
+    },
+    Row {
+        file: b"NFG 1 R \"\" { \"1\" \"2\" } { 1 1 } { } 0",
+        wanted: Wanted::Payoffs(&[(0, 1), (0, 1)]),
+    },
+    Row {
+        file: b"NFG 1 R \"PD\" { \"1\" \"2\" } { 2 2 } 2 2 3 0 0 3 1",
+        wanted: Wanted::Fault(NfgFault::Bad { at: 46 }),
+    },
+    Row {
+        file: b"NFG 1 R \"PD\" { \"1\" \"2\" } { 2 2 } 2 2 3 0 0 3 1 1 1",
+        wanted: Wanted::Fault(NfgFault::Bad { at: 49 }),
+    },
+    Row {
+        file: b"NFG 1 R \"PD\" { \"1\" \"2\" } { 2 2 } 1/0 2 3 0 0 3 1 1",
+        wanted: Wanted::Fault(NfgFault::Bad { at: 33 }),
+    },
+    Row {
+        file: b"NFG 1 R \"PD\" { \"1\" \"2\" } { 2 2 } 1111111111111111111111111111111111111 2 3 0 0 3 1 1",
+        wanted: Wanted::Fault(NfgFault::Limit {
+            what: What::Digits,
+            number: 37,
+            at: 33,
+        }),
+    },
+    Row {
+        file: b"",
+        wanted: Wanted::Fault(NfgFault::Bad { at: 0 }),
+    },
+    Row {
+        file: b" ,\t\r\n",
+        wanted: Wanted::Fault(NfgFault::Bad { at: 5 }),
+    },
+    Row {
+        file: b"nfg 1 R",
+        wanted: Wanted::Fault(NfgFault::Bad { at: 0 }),
+    },
+    Row {
+        file: b"NFG 01 R",
+        wanted: Wanted::Fault(NfgFault::Bad { at: 4 }),
+    },
+    Row {
+        file: b"NFG 1 r",
+        wanted: Wanted::Fault(NfgFault::Bad { at: 6 }),
+    },
+    Row {
+        file: b"NFG 1 R PD",
+        wanted: Wanted::Fault(NfgFault::Bad { at: 8 }),
+    },
+    Row {
+        file: b"NFG 1 R \"PD { 1 2 }",
+        wanted: Wanted::Fault(NfgFault::Bad { at: 8 }),
+    },
+    Row {
+        file: b"NFG 1 R \"\" { \"1\" \"2\" \"3\" } { 1 1 } 0 0",
+        wanted: Wanted::Fault(NfgFault::Limit {
+            what: What::Players,
+            number: 3,
+            at: 21,
+        }),
+    },
+    Row {
+        file: b"NFG 1 R \"\" { \"1\" } { 1 1 } 0 0",
+        wanted: Wanted::Fault(NfgFault::Limit {
+            what: What::Players,
+            number: 1,
+            at: 17,
+        }),
+    },
+    Row {
+        file: b"NFG 1 R \"\" { } { 1 1 } 0 0",
+        wanted: Wanted::Fault(NfgFault::Limit {
+            what: What::Players,
+            number: 0,
+            at: 13,
+        }),
+    },
+    Row {
+        file: b"NFG 1 R \"\" { \"1\" x } { 1 1 } 0 0",
+        wanted: Wanted::Fault(NfgFault::Bad { at: 17 }),
+    },
+    Row {
+        file: b"NFG 1 R \"\" { \"1\" \"2\" } { 0 1 }",
+        wanted: Wanted::Fault(NfgFault::Bad { at: 25 }),
+    },
+    Row {
+        file: b"NFG 1 R \"\" { \"1\" \"2\" } { 0000000000000000000000000000000000000 1 }",
+        wanted: Wanted::Fault(NfgFault::Bad { at: 25 }),
+    },
+    Row {
+        file: b"NFG 1 R \"\" { \"1\" \"2\" } { 1 }",
+        wanted: Wanted::Fault(NfgFault::Bad { at: 27 }),
+    },
+    Row {
+        file: b"NFG 1 R \"\" { \"1\" \"2\" } { 1 1 1 } 0 0 0 0",
+        wanted: Wanted::Fault(NfgFault::Bad { at: 29 }),
+    },
+    Row {
+        file: b"NFG 1 R \"\" { \"1\" \"2\" } { -1 1 }",
+        wanted: Wanted::Fault(NfgFault::Bad { at: 25 }),
+    },
+    Row {
+        file: b"NFG 1 R \"\" { \"1\" \"2\" } { 1 17 }",
+        wanted: Wanted::Fault(NfgFault::Limit {
+            what: What::Strategies,
+            number: 17,
+            at: 27,
+        }),
+    },
+    Row {
+        file: b"NFG 1 R \"\" { \"1\" \"2\" } { 999999999999999999999999999999999999 1 }",
+        wanted: Wanted::Fault(NfgFault::Limit {
+            what: What::Strategies,
+            number: 999999999999999999999999999999999999,
+            at: 25,
+        }),
+    },
+    Row {
+        file: b"NFG 1 R \"\" { \"1\" \"2\" } { 0000000000000000000000000000000000001 1 }",
+        wanted: Wanted::Fault(NfgFault::Limit {
+            what: What::Digits,
+            number: 37,
+            at: 25,
+        }),
+    },
+    Row {
+        file: b"NFG 1 R \"\" { \"1\" \"2\" } { { } { \"a\" } }",
+        wanted: Wanted::Fault(NfgFault::Bad { at: 27 }),
+    },
+    Row {
+        file: b"NFG 1 R \"\" { \"1\" \"2\" } { { \"a\" } \"b\" }",
+        wanted: Wanted::Fault(NfgFault::Bad { at: 33 }),
+    },
+    Row {
+        file: b"NFG 1 R \"\" { \"1\" \"2\" } { { \"a\" 1 } }",
+        wanted: Wanted::Fault(NfgFault::Bad { at: 31 }),
+    },
+    Row {
+        file: b"NFG 1 R \"\" { \"1\" \"2\" } { { \"s\" \"s\" \"s\" \"s\" \"s\" \"s\" \"s\" \"s\" \"s\" \"s\" \"s\" \"s\" \"s\" \"s\" \"s\" \"s\" \"s\" } { \"a\" } }",
+        wanted: Wanted::Fault(NfgFault::Limit {
+            what: What::Strategies,
+            number: 17,
+            at: 91,
+        }),
+    },
+    Row {
+        file: b"NFG 1 R \"\" { \"1\" \"2\" } { { \"s\" \"s\" \"s\" \"s\" \"s\" \"s\" \"s\" \"s\" \"s\" \"s\" \"s\" \"s\" \"s\" \"s\" \"s\" \"s\" } { \"a\" } } 1 1 1 1 1 1 1 1 1 1 1 1 1 1 1 1 1 1 1 1 1 1 1 1 1 1 1 1 1 1 1 1",
+        wanted: Wanted::Payoffs(&[
+            (1, 1),
+            (1, 1),
+            (1, 1),
+            (1, 1),
+            (1, 1),
+            (1, 1),
+            (1, 1),
+            (1, 1),
+            (1, 1),
+            (1, 1),
+            (1, 1),
+            (1, 1),
+            (1, 1),
+            (1, 1),
+            (1, 1),
+            (1, 1),
+            (1, 1),
+            (1, 1),
+            (1, 1),
+            (1, 1),
+            (1, 1),
+            (1, 1),
+            (1, 1),
+            (1, 1),
+            (1, 1),
+            (1, 1),
+            (1, 1),
+            (1, 1),
+            (1, 1),
+            (1, 1),
+            (1, 1),
+            (1, 1),
+        ]),
+    },
+    Row {
+        file: b"NFG 1 R \"\" { \"1\" \"2\" } { 1 1 } \"a\" \"b\" 0 0",
+        wanted: Wanted::Fault(NfgFault::Bad { at: 35 }),
+    },
+    Row {
+        file: b"NFG 1 R \"\" { \"1\" \"2\" } { 1 1 } 0 +1",
+        wanted: Wanted::Fault(NfgFault::Bad { at: 33 }),
+    },
+    Row {
+        file: b"NFG 1 R \"\" { \"1\" \"2\" } { 1 1 } 1e3 1",
+        wanted: Wanted::Fault(NfgFault::Bad { at: 31 }),
+    },
+    Row {
+        file: b"NFG 1 R \"\" { \"1\" \"2\" } { 1 1 } 1.5/2 1",
+        wanted: Wanted::Fault(NfgFault::Bad { at: 31 }),
+    },
+    Row {
+        file: b"NFG 1 R \"\" { \"1\" \"2\" } { 1 1 } . 1",
+        wanted: Wanted::Fault(NfgFault::Bad { at: 31 }),
+    },
+    Row {
+        file: b"NFG 1 R \"\" { \"1\" \"2\" } { 1 1 } 0 \"1\"",
+        wanted: Wanted::Fault(NfgFault::Bad { at: 33 }),
+    },
+    Row {
+        file: b"NFG 1 R \"\" { \"1\" \"2\" } { 1 1 } { { \"x\" 5 } } 0",
+        wanted: Wanted::Fault(NfgFault::Bad { at: 41 }),
+    },
+    Row {
+        file: b"NFG 1 R \"\" { \"1\" \"2\" } { 1 1 } { { \"x\" 5 5 5 } } 0",
+        wanted: Wanted::Fault(NfgFault::Bad { at: 43 }),
+    },
+    Row {
+        file: b"NFG 1 R \"\" { \"1\" \"2\" } { 1 1 } { { \"x\" 5 5 } 1 } 0",
+        wanted: Wanted::Fault(NfgFault::Bad { at: 45 }),
+    },
+    Row {
+        file: b"NFG 1 R \"\" { \"1\" \"2\" } { 1 1 } { { \"x\" 5 5 }",
+        wanted: Wanted::Fault(NfgFault::Bad { at: 44 }),
+    },
+    Row {
+        file: b"NFG 1 R \"\" { \"1\" \"2\" } { 1 1 } { } 1111111111111111111111111111111111111",
+        wanted: Wanted::Fault(NfgFault::Bad { at: 35 }),
+    },
+    Row {
+        file: b"NFG 1 R \"\" { \"1\" \"2\" } { 1 1 } { } 0000000000000000000000000000000000000",
+        wanted: Wanted::Fault(NfgFault::Limit {
+            what: What::Digits,
+            number: 37,
+            at: 35,
+        }),
+    },
+    Row {
+        file: b"NFG 1 R \"\" { \"1\" \"2\" } { 1 1 } { } -0",
+        wanted: Wanted::Fault(NfgFault::Bad { at: 35 }),
     },
 ];
 
-const BAD: [&[u8]; 13] = [
-    b"NFG 1 R \"PD\" { \"1\" \"2\" } { 2 2 } 2 2 3 0 0 3 1",
-    b"NFG 1 R \"PD\" { \"1\" \"2\" } { 2 2 } 2 2 3 0 0 3 1 1 1",
-    b"",
-    b" ,\t\r\n",
-    b"NFG 1 R \"PD\" { \"1\" \"2\" } { 2 2 } 1/0 2 3 0 0 3 1 1",
-    b"NFG 1 R \"PD\" { \"1\" \"2\" } { 1 1 } 1111111111111111111111111111111111111 2",
-    b"NFG 1 R \"PD\" { \"1\" \"2\" } { 1 1 } 67108865 0",
-    b"NFG 1 R \"PD\" { \"1\" \"2\" } { 17 1 } 0 0 0 0 0 0 0 0 0 0 0 0 0 0 0 0 0 0 0 0 0 0 0 0 0 0 0 0 0 0 0 0 0 0",
-    b"NFG 1 R \"PD\" { \"1\" \"2\" } { 0 2 }",
-    b"NFG 1 R \"PD\" { \"1\" \"2\" } { 1 1 } \"a comment\" 0 0",
-    b"NFG 1 R \"z\" { \"1\" \"2\" } { 1 1 } { { \"x\" 5, 5 } } 0",
-    b"NFG 1 R \"PD\" { \"1\" \"2\" \"3\" } { 1 1 } 0 0",
-    b"NFG 1 R \"PD { 1 2 } { 1 1 } 0 0",
+fn are_payoffs(payoffs: &List<Frac>, wanted: &[(i128, i128)]) -> bool {
+    for i in 0..payoffs.len() {
+        let payoff = payoffs.get(i);
+        if wanted.get(i as usize) != Some(&(payoff.num(), payoff.den())) {
+            return false;
+        }
+    }
+    payoffs.len() as usize == wanted.len()
+}
+
+fn is_read(alloc: Global, row: &Row) -> bool {
+    match (read_nfg(alloc, row.file), &row.wanted) {
+        (Ok(game), Wanted::Payoffs(payoffs)) => are_payoffs(&game.payoffs, payoffs),
+        (Err(fault), Wanted::Fault(wanted)) => fault == *wanted,
+        _ => false,
+    }
+}
+
+#[test]
+fn files_and_faults(rt: HostRuntime) {
+    for (i, row) in ROWS.iter().enumerate() {
+        assert!(rt; is_read(rt.alloc(), row), "row {i}");
+    }
+}
+
+/// Texts, and their games in canonical form.
+const WRITTEN: [(&[u8], &[u8]); 3] = [
+    (
+        b"NFG 1 R \"PD\" { \"1\" \"2\" } { 2 2 } 2 2 3 0 0 3 1 1",
+        b"NFG 1 R \"PD\" { \"1\" \"2\" } { 2 2 }\n2 2 3 0 0 3 1 1\n",
+    ),
+    (
+        b"NFG,1 D\"a\\\"b\"{\"\" \"2\"}{{\"C\"}{\"\\\"\" \"D\"}}\"note\"{{\"x\"-.5 02/4}}1 0",
+        b"NFG 1 R \"a\\\"b\" { \"\" \"2\" } { { \"C\" } { \"\\\"\" \"D\" } }\n\"note\"\n-1/2 1/2 0 0\n",
+    ),
+    (
+        b"NFG 1 R \"\" { \"1\" \"2\" } { 01 1 } 0.10 -7",
+        b"NFG 1 R \"\" { \"1\" \"2\" } { 1 1 }\n1/10 -7\n",
+    ),
 ];
 
-fn is_text(text: &Text, bytes: &[u8]) -> bool {
+fn is_text(text: &List<u8>, bytes: &[u8]) -> bool {
     for i in 0..text.len() {
         if bytes.get(i as usize) != Some(text.get(i)) {
             return false;
@@ -63,52 +365,20 @@ fn is_text(text: &Text, bytes: &[u8]) -> bool {
     text.len() as usize == bytes.len()
 }
 
-fn are_counts(strategies: &Strategies, wanted: (u32, u32)) -> bool {
-    match strategies {
-        Strategies::Counts(counts) => {
-            counts.len() == 2 && *counts.get(0) == wanted.0 && *counts.get(1) == wanted.1
-        }
-        Strategies::Names(_) => false,
-    }
-}
-
-fn are_payoffs(payoffs: &List<Frac>, wanted: &[i128]) -> bool {
-    for i in 0..payoffs.len() {
-        let payoff = payoffs.get(i);
-        if wanted.get(i as usize) != Some(&payoff.num()) || payoff.den() != 1 {
-            return false;
-        }
-    }
-    payoffs.len() as usize == wanted.len()
-}
-
-fn is_game(game: &Nfg, row: &Row) -> bool {
-    is_text(&game.title, row.title)
-        && game.players.len() == 2
-        && are_counts(&game.strategies, row.counts)
-        && are_payoffs(&game.payoffs, row.payoffs)
-}
-
-fn is_read(alloc: Global, row: &Row) -> bool {
-    match read_nfg(alloc, row.file) {
-        Ok(game) => is_game(&game, row),
+fn is_written(alloc: Global, file: &[u8], wanted: &[u8]) -> bool {
+    match read_nfg(alloc, file) {
+        Ok(game) => match write_nfg(alloc, &game) {
+            Ok(text) => is_text(&text, wanted),
+            Err(_) => false,
+        },
         Err(_) => false,
     }
 }
 
-fn is_bad(alloc: Global, file: &[u8]) -> bool {
-    match read_nfg(alloc, file) {
-        Ok(_) => false,
-        Err(fault) => fault == NfgFault::Bad { at: 0 },
-    }
-}
-
 #[test]
-fn files(rt: HostRuntime) {
-    for row in &PLAIN {
-        assert!(rt; is_read(rt.alloc(), row));
-    }
-    for (i, file) in BAD.iter().enumerate() {
-        assert!(rt; is_bad(rt.alloc(), file), "file {i}");
+fn canonical_texts(rt: HostRuntime) {
+    for (i, (file, text)) in WRITTEN.iter().enumerate() {
+        assert!(rt; is_written(rt.alloc(), file, text), "text {i}");
+        assert!(rt; is_written(rt.alloc(), text, text), "canonical text {i}");
     }
 }

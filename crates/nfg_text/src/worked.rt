@@ -2,20 +2,12 @@
 
 ghost use Rattle.std.specs.Prelude.{◌≡◌, ℕ, List, codes, pos, Ok, Err};
 ghost use Rattle.nfg_text.specs.declared.nfg.Nfg.{Nfg};
-ghost use Rattle.nfg_text.specs.PlainFile.{IsPlainFile};
 ghost use Rattle.nfg_text.specs.ReadGame.{IsReadGame};
 ghost use Rattle.nfg_text.specs.Worked.{prisoners_dilemma};
 ghost use Rattle.nfg_text.specs.Grammar.{nfg_of};
+ghost use Rattle.nfg_text.specs.Writable.{IsWritable};
 ghost use Rattle.nfg_text.specs.declared.fault.NfgFault.TheVariants.{Bad, Limit};
 ghost use Rattle.nfg_text.specs.declared.what.What.TheVariants.{Digits, Players};
-
-/// A law: the file of the prisoner's dilemma is plain, and isn't once its last payoff is cut off or another
-/// follows.
-pub fn plain_file()
-    ensures whole { IsPlainFile (codes "NFG 1 R \"PD\" { \"1\" \"2\" } { 2 2 } 2 2 3 0 0 3 1 1") prisoners_dilemma }
-    ensures cut { (n : Nfg) → IsPlainFile (codes "NFG 1 R \"PD\" { \"1\" \"2\" } { 2 2 } 2 2 3 0 0 3 1") n → ⊥ }
-    ensures longer { (n : Nfg) → IsPlainFile (codes "NFG 1 R \"PD\" { \"1\" \"2\" } { 2 2 } 2 2 3 0 0 3 1 1 1") n → ⊥ }
-{}
 
 /// A law: the file of the prisoner's dilemma has its value, and the fault of its neighbours is the first, with
 /// its place and cause.
@@ -32,4 +24,9 @@ pub fn faults_of_files()
 /// A law: whatever a text has keeps the form of a game.
 pub fn read_games_keep_their_form()
     ensures { (bytes : List ℕ) (n : Nfg) → nfg_of bytes ≡ Ok n → IsReadGame n }
+{}
+
+/// A law: the prisoner's dilemma can be written.
+pub fn writable_game()
+    ensures { IsWritable prisoners_dilemma }
 {}

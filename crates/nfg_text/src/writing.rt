@@ -1,7 +1,10 @@
 //! Texts in their canonical form.
 
-ghost use Rattle.std.specs.Prelude.{◌≡◌, ◌≤◌, ◌++◌, ◌∷◌, [], ℕ, codes, decimal, length, OnOk, IfOk};
-ghost use Rattle.nfg_text.specs.Canonical.{canonical, comment_text, counts_text, escaped, head_text, names_text, braced, payoffs_text, quoted_text, ratio_text, strategies_text};
+ghost use Rattle.std.specs.Prelude.{◌≡◌, ◌≤◌, ◌++◌, ◌∷◌, [], ℕ, codes, decimal, length, OnOk, IfOk, Ok};
+ghost use Rattle.nfg_text.specs.Canonical.{canonical, comment_text, counts_text, head_text, names_text, braced, payoffs_text, ratio_text, strategies_text};
+ghost use Rattle.token_text.specs.Quoted.{escaped, quoted_text};
+ghost use Rattle.nfg_text.specs.Grammar.{nfg_of};
+ghost use Rattle.nfg_text.specs.Writable.{IsWritable};
 ghost use Rattle.std.specs.List.{flat_map};
 
 use crate::nfg::{Nfg, Strategies};
@@ -11,12 +14,21 @@ use pay_frac::Frac;
 use std::alloc::{AllocError, Global};
 use token_text::{Text, put};
 
-/// The canonical text of a game.
+/// The canonical text of a game. The grammar reads it as the same game, where a file can have the game and where
+/// the spelling of each payoff has at most 36 digits: a decimal that was read may have a longer one.
 ///
 /// # Errors
 ///
 /// Want of memory, which here also is a text of 2^32 bytes or more.
 pub fn write_nfg(alloc: Global, nfg: &Nfg) -> Result<Text, AllocError>
+    ensures text { IfOk result (λ t. t ≡ canonical nfg.now) }
+    ensures again { IfOk result (λ t. IsWritable nfg.now → nfg_of t ≡ Ok nfg.now) }
+{
+    canonical_text(alloc, nfg)
+}
+
+/// The text, line by line.
+fn canonical_text(alloc: Global, nfg: &Nfg) -> Result<Text, AllocError>
     ensures { IfOk result (λ t. t ≡ canonical nfg.now) }
 {
     let mut out = List::new(alloc);

@@ -1,3 +1,4 @@
 pub mod Lexer
 pub mod LexerInside
+pub mod Quoted
 pub mod Tokens

@@ -1,5 +1,5 @@
 use Rattle.std.proofs.Common.{◌≡◌, ◌++◌, take}
-use Rattle.nfg_text.specs.Canonical.{escaped}
+use Rattle.token_text.specs.Quoted.{escaped}
 use Rattle.nfg_text.proofs.writing.escaped_bytes.Given as goal
 
 abbrev pub invariant-loop-i : goal.invariant-loop-i
