@@ -15,10 +15,9 @@ ghost use Rattle.nfg_text.specs.Wanted.{Gives};
 use crate::fault::{FileId, GameFault};
 use crate::first::First;
 use crate::loading::{LONGEST_FILE, load};
-use dyn_text::{BuildFault, Dyn, assemble, files_have_states, read_dyn, single};
+use dyn_text::{BuildFault, Dyn, assemble, files_have_states, read_dyn, single, single_fits};
 use game_model::Game;
 use nfg_text::{Nfg, NfgFault, read_games_keep_their_form, read_nfg};
-
 use pay_frac::Frac;
 use pay_outside::Shelf;
 use std::alloc::{AllocError, Global};
@@ -197,6 +196,7 @@ pub fn read_game<S: Shelf>(
 {
     read_games_keep_their_form();
     files_have_states();
+    single_fits();
     let files = read_files(alloc, shelf, name)?;
     match assemble(alloc, &files.dynamic, &files.games, discount) {
         Ok(game) => Ok(game),
