@@ -40,7 +40,8 @@ successor_read n after k e at =
     let step : Result ℕ NfgFault → Result (Option ℕ × Stream) NfgFault = λ r. r >>= λ n. Ok (Some n, rest (written at (w ++ after))) in
     let token = b.token in
     let left : Stream → Result (Option ℕ × Stream) NfgFault = λ s. Ok (Some n, s) in
-    (place, rw (token, successor_or_close_at) (ap step value ∙ ap left b.left))
+    let first : Token → Result (Option ℕ × Stream) NfgFault = λ u. successor_as u (whole_in (word w)) >>= λ n. Ok (Some n, rest (written at (w ++ after))) in
+    (place, rw (token, successor_or_close_at) (ap first b.token ∙ ap step value ∙ ap left b.left))
 
 blank_successor : (n : ℕ) (after : List ℕ) → IsSmall n → ends_word after ≡ true → IsRead successor_or_close_at ((32 ∷ decimal n) ++ after) (Some n) after
 blank_successor n after k e = read_blank successor_or_close_at (decimal n ++ after) (Some n) after (successor_read n after k e)
@@ -64,7 +65,8 @@ room_for (n ∷ ns) tail at e a =
     let t : Stream = written first.0 more in
     let shorter : length t.tokens < length s.tokens = item_shorter s t n here in
     let others : length ns ≤ length t.tokens = room_for ns tail first.0 e (all_others IsSmall n ns a) in
-    omega arith
+    let all : suc (length ns) ≤ length s.tokens = omega arith in
+    all
 
 successors_read : (ns after : List ℕ) → All IsSmall ns → IsRead successors_at (counts_text ns ++ 32 ∷ 125 ∷ after) ns after
 unfolding successors_at

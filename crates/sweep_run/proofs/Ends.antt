@@ -95,8 +95,8 @@ enough_settles : (p : Problem) (start : Levels) (budget sweeps : ℕ) (t : Table
 enough_settles p start budget sweeps t (Supported supports) sound last dropped enough = tt
 enough_settles p start budget sweeps t (Unsupported row level reached) sound last dropped enough =
     let some_state : 1 ≤ t.states = sound.table.whole.some_state in
-    let first_direction : 1 ≤ t.directions = sound.table.whole.first_direction in
-    let positive : 1 * 1 ≤ t.states * t.directions = mul-le-mul some_state first_direction in
+    let some_direction : 1 ≤ t.directions = sound.table.whole.some_direction in
+    let positive : 1 * 1 ≤ t.states * t.directions = mul-le-mul some_state some_direction in
     let rows : length t.levels ≡ states p.game * direction_count p = sound.table.whole.one_each ∙ ap (λ (n : ℕ). n * t.directions) sound.table.sizes.states_agree ∙ ap (λ (n : ℕ). states p.game * n) sound.table.sizes.directions_agree in
     let left : ℤ = most_drop p (opening_table p) -ℤ drop_of p (opening_table p) start in
     let few : pos sweeps ≤ℤ left =

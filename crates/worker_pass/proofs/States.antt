@@ -84,7 +84,7 @@ cleared_more_state f notes notes' note v v' s ok is state fell cleared here r kn
   | inl old ↦ empty_fallen v v' r fell (cleared r known old)
   | inr e ↦
       let d = f.start.directions in
-      let dir : r % d < d = mod-lt r (omega (arith, ok.whole.first_direction)) in
+      let dir : r % d < d = mod-lt r (omega (arith, ok.whole.some_direction)) in
       let at : s ≡ r / d = sym state ∙ e in
       subst (λ (n : ℕ). level_at v' n ≡ Empty) (row_of f r) (subst (λ (m : ℕ). level_at v' (m * d + r % d) ≡ Empty) at (here (r % d) dir))
 ]
