@@ -1,6 +1,13 @@
 use Rattle.game_files.specs.Loads.{Counts, counts_of}
 use Rattle.game_files.proofs.Built.{no_game}
+use Rattle.game_files.proofs.RightTexts.{TextLaws, texts}
 use Rattle.game_files.proofs.reading.read_game.Goals as goal
+
+pub assemble-requires-clause-texts : goal.assemble-requires-clause-texts
+assemble-requires-clause-texts g c =
+    let laws : TextLaws = record { game = c.read_games_keep_their_form.ensures; states = c.files_have_states.ensures; alone = λ n h. (c.single_fits.ensures n h).0 } in
+    let files = c.in_ok-files.files in
+    texts (g.S.Shelf.bytes c.args.shelf.now) c.args.name.now files.dynamic files.games.items c.deref.result.now laws c.in_ok-files.ensures.files c.deref.ensures.value
 
 pub returns-clause-why : goal.returns-clause-why
 returns-clause-why g c =
