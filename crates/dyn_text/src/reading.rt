@@ -9,9 +9,8 @@ ghost use Rattle.dyn_text.specs.Grammar.{file_name_at, successor_as, successor_o
 use crate::file_name::{FileName, file_name};
 use crate::transitions::{Dyn, DynState};
 use game_model::List;
-use nfg_text::What;
-use nfg_text::NfgFault;
 use nfg_text::wants::{close, end, exact, limited, open, quoted, quoted_text, whole};
+use nfg_text::{NfgFault, What};
 use std::alloc::Global;
 use token_text::{Lexeme, LexemeKind, Lexer};
 

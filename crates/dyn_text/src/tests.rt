@@ -1,6 +1,5 @@
 use crate::{Dyn, read_dyn, single, write_dyn};
-use nfg_text::What;
-use nfg_text::{NfgFault, read_nfg};
+use nfg_text::{NfgFault, What, read_nfg};
 use std::alloc::Global;
 
 enum Wanted {

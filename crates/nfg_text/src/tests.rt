@@ -1,6 +1,5 @@
-use crate::What;
-use crate::{NfgFault, read_nfg};
 use crate::writing::write_nfg;
+use crate::{NfgFault, What, read_nfg};
 use game_model::List;
 use pay_frac::Frac;
 use std::alloc::Global;

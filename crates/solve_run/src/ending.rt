@@ -50,9 +50,7 @@ fn shape_line(alloc: Global, fault: ShapeFault) -> Result<Option<String>, AllocE
 {
     let what = shape_words(fault.what);
     let (state, found, wanted) = (fault.state, fault.found, fault.wanted);
-    Ok(Some(format!(in alloc;
-        "payoff: state {state}: {what} found {found} wanted {wanted}"
-    )?))
+    Ok(Some(format!(in alloc; "payoff: state {state}: {what} found {found} wanted {wanted}")?))
 }
 
 /// The name of a file in a line.
