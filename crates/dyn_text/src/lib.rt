@@ -22,6 +22,4 @@ pub use worked::{faults_of_files, files_have_states, writable_transitions};
 pub use writing::write_dyn;
 
 #[cfg(test)]
-mod assembling_tests;
-#[cfg(test)]
 mod tests;

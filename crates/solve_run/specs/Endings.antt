@@ -47,14 +47,18 @@ what_text whats.Log = codes "log"
 abbrev pub told : List ℕ → Option (List ℕ)
 told text = Some (codes "payoff: " ++ text)
 
+-- the line of a state whose list has a wrong length or a wrong successor
+abbrev pub misfit_text : ℕ → ShapeWhat → ℕ → ℕ → Option (List ℕ)
+misfit_text state what found wanted =
+    told (codes "state " ++ (decimal state ++ (codes ": " ++ (shape_text what ++ (codes " found " ++ (decimal found ++ (codes " wanted " ++ decimal wanted)))))))
+
 -- The line of a status, without its line feed. A run that came to its end has none.
 abbrev pub line_text : Status → Option (List ℕ)
 line_text Settled = None
 line_text (Spent sweeps row) = None
 line_text (Usage index) = told (codes "word " ++ decimal index ++ codes " is not understood")
-line_text (BadInput file at) = told (file_text file ++ codes " is not valid at byte " ++ decimal at)
-line_text (Shape fault) =
-    told (codes "state " ++ decimal fault.state ++ codes ": " ++ shape_text fault.what ++ codes " found " ++ decimal fault.found ++ codes " wanted " ++ decimal fault.wanted)
+line_text (BadInput file at) = told (file_text file ++ (codes " is not valid at byte " ++ decimal at))
+line_text (Shape fault) = misfit_text fault.state fault.what fault.found fault.wanted
 line_text (TooLong file) = told (file_text file ++ codes " is too long")
 line_text (ReadFault file) = told (file_text file ++ codes " cannot be read")
 line_text (Beyond what number) = told (what_text what ++ codes " is beyond its limit: " ++ signed_decimal number)

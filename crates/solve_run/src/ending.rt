@@ -2,12 +2,12 @@
 
 ghost use Rattle.std.specs.Prelude.{◌≡◌, IfOk, string_bytes};
 ghost use Rattle.std.specs.Option.{option_map};
-ghost use Rattle.solve_run.specs.Endings.{exit_code, file_text, line_text, shape_text, what_text};
-ghost use Rattle.solve_run.specs.declared.outcome.Status.TheVariants.{Shape};
+ghost use Rattle.solve_run.specs.Endings.{exit_code, file_text, line_text, misfit_text, what_text};
+ghost use Rattle.solve_run.specs.declared.outcome.Status.TheVariants.{BadInput};
 
 use crate::outcome::Status;
 use game_files::FileId;
-use game_model::{ShapeFault, ShapeWhat};
+use game_model::ShapeWhat;
 use nfg_text::What;
 use std::alloc::{AllocError, Global};
 
@@ -20,11 +20,10 @@ pub fn line_of(alloc: Global, status: Status) -> Result<Option<String>, AllocErr
         Status::Usage { index } => Ok(Some(format!(in alloc;
             "payoff: word {index} is not understood"
         )?)),
-        Status::BadInput { file, at } => {
-            let file = name_of(alloc, file)?;
-            Ok(Some(format!(in alloc; "payoff: {file} is not valid at byte {at}")?))
+        Status::BadInput { file, at } => bad_input_line(alloc, file, at),
+        Status::Shape { fault } => {
+            shape_line(alloc, fault.state, fault.what, fault.found, fault.wanted)
         }
-        Status::Shape { fault } => shape_line(alloc, fault),
         Status::TooLong { file } => {
             let file = name_of(alloc, file)?;
             Ok(Some(format!(in alloc; "payoff: {file} is too long")?))
@@ -44,13 +43,47 @@ pub fn line_of(alloc: Global, status: Status) -> Result<Option<String>, AllocErr
     }
 }
 
-/// The line of a state whose successors don't fit.
-fn shape_line(alloc: Global, fault: ShapeFault) -> Result<Option<String>, AllocError>
-    ensures { IfOk result (λ line. option_map string_bytes line ≡ line_text (Shape fault)) }
+/// The line of a file that isn't valid.
+fn bad_input_line(alloc: Global, file: FileId, at: u64) -> Result<Option<String>, AllocError>
+    ensures { IfOk result (λ line. option_map string_bytes line ≡ line_text (BadInput file at)) }
 {
-    let what = shape_words(fault.what);
-    let (state, found, wanted) = (fault.state, fault.found, fault.wanted);
-    Ok(Some(format!(in alloc; "payoff: state {state}: {what} found {found} wanted {wanted}")?))
+    match file {
+        FileId::First => Ok(Some(format!(in alloc;
+            "payoff: first file is not valid at byte {at}"
+        )?)),
+        FileId::State(state) => Ok(Some(format!(in alloc;
+            "payoff: file of state {state} is not valid at byte {at}"
+        )?)),
+        FileId::Second => Ok(Some(format!(in alloc;
+            "payoff: second file is not valid at byte {at}"
+        )?)),
+    }
+}
+
+/// The line of a state whose successors don't fit.
+fn shape_line(
+    alloc: Global,
+    state: u32,
+    what: ShapeWhat,
+    found: u64,
+    wanted: u64,
+) -> Result<Option<String>, AllocError>
+    ensures { IfOk result (λ line. option_map string_bytes line ≡ misfit_text state what found wanted) }
+{
+    match what {
+        ShapeWhat::Players => Ok(Some(format!(in alloc;
+            "payoff: state {state}: players found {found} wanted {wanted}"
+        )?)),
+        ShapeWhat::Payoffs => Ok(Some(format!(in alloc;
+            "payoff: state {state}: payoffs found {found} wanted {wanted}"
+        )?)),
+        ShapeWhat::Successors => Ok(Some(format!(in alloc;
+            "payoff: state {state}: successors found {found} wanted {wanted}"
+        )?)),
+        ShapeWhat::Successor => Ok(Some(format!(in alloc;
+            "payoff: state {state}: successor found {found} wanted {wanted}"
+        )?)),
+    }
 }
 
 /// The name of a file in a line.
@@ -61,18 +94,6 @@ fn name_of(alloc: Global, file: FileId) -> Result<String, AllocError>
         FileId::First => String::from_str(alloc, "first file"),
         FileId::State(state) => format!(in alloc; "file of state {state}"),
         FileId::Second => String::from_str(alloc, "second file"),
-    }
-}
-
-/// The name of a length or a number of a state in a line.
-fn shape_words(what: ShapeWhat) -> &'static str
-    ensures { result.now ≡ shape_text what }
-{
-    match what {
-        ShapeWhat::Players => "players",
-        ShapeWhat::Payoffs => "payoffs",
-        ShapeWhat::Successors => "successors",
-        ShapeWhat::Successor => "successor",
     }
 }
 
@@ -125,6 +146,7 @@ pub fn exit_of(status: Status) -> u8
 #[cfg(test)]
 mod tests {
     use super::*;
+    use game_model::ShapeFault;
     use std::test::Fail;
 
     #[test]

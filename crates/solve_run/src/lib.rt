@@ -13,4 +13,6 @@ pub use outcome::{Outcome, Status};
 pub use run::payoff_run;
 
 #[cfg(test)]
+mod file_tests;
+#[cfg(test)]
 mod tests;

@@ -1,12 +1,12 @@
 //! The top call.
 
-ghost use Rattle.std.specs.Prelude.{◌≡◌, ◌<◌, ◌^◌, length, IfOk, IfErr};
-ghost use Rattle.pay_words.specs.Command.{words_in};
+ghost use Rattle.std.specs.Prelude.{◌≡◌, ℕ, ◌<◌, ◌^◌, None, length, IfOk, IfErr, OnOk};
+ghost use Rattle.pay_words.specs.Command.{IsMisfit, words_in};
 ghost use Rattle.pay_words.specs.Options.{AreWithinLimits};
 ghost use Rattle.report_text.specs.ReportText.{IsPrintable};
 ghost use Rattle.game_files.specs.Loads.{counts_of};
 ghost use Rattle.game_files.specs.Files.{MayAskStates};
-ghost use Rattle.solve_run.specs.Refusals.{IsSolveFault};
+ghost use Rattle.solve_run.specs.Refusals.{AsksFor, IsSolveFault, file_name, set_in};
 ghost use Rattle.solve_run.specs.Run.{Causes, IsComplete, IsStatusOf, IsWritten, MayAsk, refused_as};
 ghost use Rattle.solve_run.specs.Solved.{IsAnswer};
 ghost use Rattle.solve_run.specs.Writing.{taking_of};
@@ -16,7 +16,7 @@ use crate::solve::report_on;
 use crate::write::put_all;
 use game_files::{GameFault, game_laws, read_game};
 use pay_outside::{Gate, Shelf, Sink};
-use pay_words::{Command, Settings, command_laws, command_of};
+use pay_words::{Command, Settings, UsageFault, command_laws, command_of};
 use report_text::{Report, text_of};
 use set_operator::Verdict;
 use std::alloc::Global;
@@ -53,13 +53,44 @@ pub fn payoff_run<R: Threads + Sync, S: Shelf, K: Sink, G: Gate + Sync>(
 {
     command_laws();
     game_laws();
-    match command_of(words) {
+    match settings_of(words) {
         Err(fault) => refused(Status::Usage { index: fault.index }),
-        Ok(Command::Solve { file, set }) => match solve(rt, alloc, file, &set, shelf, gate) {
+        Ok(set) => match solve(rt, alloc, name_in(words), &set, shelf, gate) {
             Err(fault) => refused(status_of_fault(fault)),
             Ok(report) => finish(alloc, sink, report),
         },
     }
+}
+
+/// The settings that the words ask for.
+fn settings_of(words: &[String]) -> Result<Settings, UsageFault>
+    requires { length words.now < 2 ^ 32 }
+    ensures asks { IfOk result (AsksFor (words_in words.now)) }
+    ensures file { OnOk result (1 < length words.now) }
+    ensures limits { IfOk result AreWithinLimits }
+    ensures misfit { IfErr result (λ f. IsMisfit (words_in words.now) f.index) }
+{
+    match command_of(words) {
+        Ok(command) => Ok(set_of(&command)),
+        Err(fault) => Err(fault),
+    }
+}
+
+/// The settings of a command.
+fn set_of(command: &Command) -> Settings
+    ensures { result ≡ set_in command.now }
+{
+    match command {
+        Command::Solve { set, .. } => *set,
+    }
+}
+
+/// The name of the file among the words.
+fn name_in(words: &[String]) -> &str
+    requires { 1 < length words.now }
+    ensures { result.now ≡ file_name (words_in words.now) }
+{
+    words[1].as_str()
 }
 
 /// The end of a call that made nothing.
