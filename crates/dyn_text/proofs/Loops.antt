@@ -1,11 +1,11 @@
 -- What the faults of single steps say of all.
-use Rattle.std.proofs.Common.{◌≡◌, ℕ, ◌+◌, ◌-◌, ◌^◌, ◌<◌, ◌≤◌, List, [], ◌∷◌, ◌++◌, length, map, get_or, take, drop, min, Vec, Result, Ok, Err, refl, sym, ap, subst, ◌∙◌, arith, append_assoc, inl, inr, ⊎_elim}
+use Rattle.std.proofs.Common.{◌≡◌, ℕ, ◌+◌, ◌-◌, ◌^◌, ◌<◌, ◌≤◌, List, [], ◌∷◌, ◌++◌, length, map, get_or, take, drop, min, Vec, Result, Err, refl, sym, ap, subst, ◌∙◌, arith, append_assoc, inl, inr}
 use Rattle.std.specs.Prelude.{ℤ, pos, ◌⊎◌, ◌≤ℤ◌, ◌<ℤ◌, IfErr, slice_index, slice_index_or}
 use Rattle.std.specs.Global.{Global}
-use Rattle.std.specs.List.{All, flat_map}
+use Rattle.std.specs.List.{All}
 use Rattle.std.specs.Int.RustNames.{unsigned_abs}
 use Rattle.std.proofs.lemmas.Int.{ints}
-use Rattle.std.proofs.lemmas.List.{map-append, map_more, take_more}
+use Rattle.std.proofs.lemmas.List.{map-append, map_more}
 use Rattle.std.proofs.lemmas.List.Elements.{All-append}
 use Rattle.pay_frac.specs.Ratio.{Ratio}
 use Rattle.pay_frac.specs.Whole.{IsLcm}
@@ -19,7 +19,7 @@ use Rattle.dyn_text.specs.declared.fault.BuildFault.TheVariants.{NoMemory, Wide}
 use Rattle.dyn_text.specs.Assembled.{denominators_in, denominators_of, payoffs_in, units}
 use Rattle.dyn_text.specs.BuildFaults.{shown, IsSmallPayoff, IsWideDenominator, IsWidePayoff}
 use Rattle.dyn_text.proofs.Multiples.{den, games_all, games_more, multiple_more, lcm_positive, wide_at, wide_more}
-use Rattle.dyn_text.proofs.Payoffs.{small_more, wide_payoff_at, wide_payoff_in}
+use Rattle.dyn_text.proofs.Payoffs.{wide_payoff_at, wide_payoff_in}
 use Rattle.dyn_text.proofs.Texts.{counts_at, no_game}
 use Rattle.dyn_text.proofs.Whole.{capped_within}
 

@@ -1,8 +1,7 @@
 -- The game of texts keeps the limits, and has the shape of its lists.
-use Rattle.std.proofs.Common.{◌≡◌, ℕ, zero, suc, ◌+◌, ◌*◌, ◌^◌, ◌<◌, ◌≤◌, List, [], ◌∷◌, ◌++◌, length, map, get_or, Some, None, Vec, vec_len, refl, sym, ap, subst, ◌∙◌, arith}
+use Rattle.std.proofs.Common.{◌≡◌, ℕ, zero, suc, ◌^◌, ◌<◌, ◌≤◌, List, [], ◌∷◌, length, map, get_or, Some, None, refl, sym, ap, subst, ◌∙◌, arith}
 use Rattle.std.specs.Prelude.{ℤ, pos, neg_ℤ, ◌<ℤ◌, ◌≤ℤ◌, slice_index, slice_index_or}
-use Rattle.std.specs.Global.{Global}
-use Rattle.std.specs.List.{All, flat_map}
+use Rattle.std.specs.List.{All}
 use Rattle.std.specs.Int.RustNames.{unsigned_abs}
 use Rattle.std.proofs.lemmas.Int.{ints}
 use Rattle.std.proofs.lemmas.List.{get_or-map, length-map}
@@ -10,15 +9,15 @@ use Rattle.std.proofs.lemmas.Nat.Gcd.{le_of_dvd}
 use Rattle.pay_frac.specs.Ratio.{Ratio}
 use Rattle.nfg_text.specs.declared.nfg.Nfg.{Nfg}
 use Rattle.nfg_text.specs.declared.nfg.Strategies.TheVariants.{Counts}
-use Rattle.nfg_text.specs.Grammar.{counts_of, profiles_of}
+use Rattle.nfg_text.specs.Grammar.{counts_of}
 use Rattle.nfg_text.specs.ReadGame.{IsReadGame}
 use Rattle.game_model.specs.declared.parts.ShapeFault.{ShapeFault}
 use Rattle.game_model.specs.declared.parts.GameParts.{GameParts}
-use Rattle.game_model.specs.Game.{DynamicGame, IsGame, states, counts, Divides, IsLeastCommonMultiple}
+use Rattle.game_model.specs.Game.{DynamicGame, IsGame, states, Divides, IsLeastCommonMultiple}
 use Rattle.game_model.specs.Parts.{KeepLimits, IsFirstFault, HasNoFault, shape_fault, list_fault, shape_of, game_of}
 use Rattle.dyn_text.specs.declared.transitions.Dyn.{Dyn}
 use Rattle.dyn_text.specs.declared.transitions.DynState.{DynState}
-use Rattle.dyn_text.specs.Assembled.{payoffs_in, units, game_of_texts, shape_of_lists, shape_of_texts, AreTexts, IsDiscount}
+use Rattle.dyn_text.specs.Assembled.{payoffs_in, units, game_of_texts, shape_of_texts, AreTexts, IsDiscount}
 use Rattle.dyn_text.specs.BuildFaults.{IsSmallPayoff, IsUnit}
 use Rattle.dyn_text.proofs.Multiples.{one_multiple, to_dvd}
 use Rattle.dyn_text.proofs.Payoffs.{all_in, between}

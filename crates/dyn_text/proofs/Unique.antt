@@ -1,5 +1,5 @@
 -- Texts have one fault at most.
-use Rattle.std.proofs.Common.{◌≡◌, ℕ, zero, suc, ◌<◌, ◌≤◌, ◌^◌, List, [], ◌∷◌, ◌++◌, length, Option, Some, None, refl, sym, ap, subst, ◌∙◌, arith, inl, inr, ⊎_elim}
+use Rattle.std.proofs.Common.{◌≡◌, ℕ, suc, ◌<◌, ◌≤◌, ◌^◌, List, [], ◌∷◌, ◌++◌, Some, None, refl, sym, ap, subst, ◌∙◌, arith, inl, inr, ⊎_elim}
 use Rattle.std.specs.Prelude.{◌⊎◌, ℤ}
 use Rattle.std.specs.List.{All}
 use Rattle.std.specs.Int.RustNames.{unsigned_abs}
@@ -17,7 +17,6 @@ use Rattle.dyn_text.specs.declared.fault.BuildFault.TheVariants.{Shape, Wide, No
 use Rattle.dyn_text.specs.Assembled.{payoffs_in, denominators_in, units}
 use Rattle.dyn_text.specs.BuildFaults.{shown, IsBuildFault, IsSmallPayoff, IsUnit, IsWide, IsWideDenominator, IsWidePayoff}
 use Rattle.dyn_text.proofs.Multiples.{front_le, one_multiple, wide_excluded}
-use Rattle.dyn_text.proofs.Payoffs.{payoff_excluded}
 use Rattle.dyn_text.proofs.Texts.{first_excluded}
 
 -- ---- two places of one list

@@ -1,15 +1,13 @@
 -- From the parts of the assembling to its answer.
-use Rattle.std.proofs.Common.{◌≡◌, ℕ, ◌-◌, ◌*◌, ◌^◌, ◌<◌, ◌≤◌, List, [], ◌∷◌, map, min, refl, sym, ap, subst, ◌∙◌, arith, inl, inr}
-use Rattle.std.specs.Prelude.{ℤ, pos, ◌⊎◌, ◌≤ℤ◌, ◌<ℤ◌}
+use Rattle.std.proofs.Common.{◌≡◌, ℕ, ◌-◌, ◌<◌, ◌≤◌, List, map, min, sym, ap, subst, ◌∙◌, arith}
+use Rattle.std.specs.Prelude.{ℤ}
 use Rattle.std.specs.List.{All}
 use Rattle.std.specs.Int.RustNames.{unsigned_abs}
-use Rattle.std.proofs.lemmas.Int.{ints}
 use Rattle.pay_frac.specs.Ratio.{Ratio}
 use Rattle.nfg_text.specs.declared.nfg.Nfg.{Nfg}
 use Rattle.nfg_text.specs.declared.what.What.{What}
 use Rattle.nfg_text.specs.Grammar.{counts_of}
 use Rattle.game_model.specs.declared.parts.ShapeFault.{ShapeFault}
-use Rattle.game_model.specs.Game.{DynamicGame}
 use Rattle.game_model.specs.Parts.{IsFirstFault, HasNoFault}
 use Rattle.dyn_text.specs.declared.transitions.Dyn.{Dyn}
 use Rattle.dyn_text.specs.declared.transitions.DynState.{DynState}

@@ -1,5 +1,5 @@
 -- What is read keeps the form of a game.
-use Rattle.std.proofs.Common.{lit<, lit≤, ◌≡◌, ℕ, zero, suc, ◌+◌, ◌*◌, ◌<◌, ◌≤◌, ◌==◌, nat_lt, Bool, true, false, if◌then◌else◌, List, [], ◌∷◌, ◌++◌, length, map, get_or, Option, Some, None, Result, Ok, Err, refl, sym, ap, subst, ◌∙◌, arith}
+use Rattle.std.proofs.Common.{lit<, lit≤, ◌≡◌, ℕ, zero, suc, ◌+◌, ◌*◌, ◌<◌, ◌≤◌, ◌==◌, nat_lt, Bool, true, false, if◌then◌else◌, List, [], ◌∷◌, ◌++◌, length, get_or, Option, Some, None, Result, Ok, Err, refl, sym, ap, subst, ◌∙◌, arith}
 use Rattle.std.specs.Prelude.{pos}
 use Rattle.std.specs.List.{All}
 use Rattle.std.proofs.lemmas.Bool.{eqb-false, ltb-false}
@@ -7,7 +7,7 @@ use Rattle.std.proofs.lemmas.List.Elements.{All-nil, All-cons}
 use Rattle.std.proofs.lemmas.Nat.Gcd.{dvd_refl, dvd-zero}
 use Rattle.std.proofs.lemmas.Option.{none-some}
 use Rattle.std.proofs.lemmas.Int.{ints}
-use Rattle.pay_frac.specs.Ratio.{Ratio, IsLowest}
+use Rattle.pay_frac.specs.Ratio.{Ratio}
 use Rattle.pay_frac.specs.declared.numbers.NumberFault.{NumberFault}
 use Rattle.pay_frac.specs.declared.numbers.NumberFault.TheVariants.{NotNumber, Beyond}
 use Rattle.pay_frac.specs.Number.{number_of}
@@ -20,7 +20,7 @@ use Rattle.nfg_text.specs.declared.outcomes.Outcome.{Outcome}
 use Rattle.nfg_text.specs.declared.what.What.TheVariants.{Digits, Strategies as StrategiesLimit}
 use Rattle.nfg_text.specs.declared.fault.NfgFault.{NfgFault}
 use Rattle.nfg_text.specs.declared.fault.NfgFault.TheVariants.{Bad, Limit}
-use Rattle.nfg_text.specs.Wanted.{◌>>=◌, bad, or_bad, open_at, close_at, end_at, quoted_at, quoted_in, word_in, whole_in, number_as, number_at, limited, many_at, times_at, behind, bad_past}
+use Rattle.nfg_text.specs.Wanted.{◌>>=◌, bad, or_bad, open_at, close_at, end_at, quoted_at, word_in, whole_in, number_as, number_at, limited, many_at, times_at, behind, bad_past}
 use Rattle.nfg_text.specs.Grammar.{title_at, player_at, two_at, players_at, count_as, count_at, counts_at, full_at, sixteen_past, name_or_close_at, names_at, both_names_at, strategies_at, counts_of, profiles_of, comment_at, outcome_at, outcome_or_close_at, outcomes_at, nothing, outcome_of, choice_as, choice_at, payoffs_of, choices_at, chosen_at, body_at, file_at, nfg_of}
 use Rattle.nfg_text.specs.ReadGame.{IsShortNumber, IsReadGame}
 use Rattle.nfg_text.proofs.Shorter.{bind_ok, ok_err}
