@@ -1,8 +1,9 @@
 #!/bin/sh
-# Times the built program over the example games in 4 and in 16 directions, by 1, 2 and 4 workers, a line each. It is no
+# Times the built program over the example games, repeated and dynamic, in 4 and in 16 directions, by 1, 2 and 4 workers, a line each. It is no
 # test.
 top=$(CDPATH='' cd -- "$(dirname -- "$0")/.." && pwd) || exit 1
 program=$top/crates/payoff_cli/out/payoff_cli
+cd "$top" || exit 1
 [ -x "$program" ] || "$top/payoff" solve >/dev/null 2>&1 # a missing word: builds, and is refused
 [ -x "$program" ] || { echo 'bench: build the program first: ./payoff solve examples/pd.nfg' >&2; exit 1; }
 
@@ -29,7 +30,7 @@ measure() {
     fi
 }
 
-for game in "$top"/examples/*.nfg; do
+for game in examples/*.nfg examples/*.dyn; do
     for directions in 4 16; do
         for workers in 1 2 4; do
             measure "$game" $directions $workers
