@@ -18,7 +18,7 @@ pub use file_name::FileName;
 pub use reading::read_dyn;
 pub use repeated::{single, single_fits};
 pub use transitions::{Dyn, DynState};
-pub use worked::{faults_of_files, files_have_states, writable_transitions};
+pub use worked::{faults_of_files, files_have_states, games_of_files, writable_transitions};
 pub use writing::write_dyn;
 
 #[cfg(test)]

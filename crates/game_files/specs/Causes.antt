@@ -119,13 +119,14 @@ IsNoGame told name discount before after r =
     IsFilesFault told name before after r
     ⊎ ((d : Dyn) × (ns : List Nfg) × AreFiles told name d ns × IsBuildRefusal d ns discount r)
 
--- the files make this game, with this discount factor of both players
+-- the files make this game, with this discount factor of both players: no shape and no limit stands in the way
 pub record IsGameOf (told : List ℕ → Option (List ℕ)) (name : List ℕ) (discount : Ratio) (g : DynamicGame) : Type 0 where
   pub d : Dyn
   pub ns : List Nfg
   pub unit : ℕ
   pub files : AreFiles told name d ns
   pub is_unit : IsUnit ns unit
+  pub fits : (f : BuildFault) → IsBuildFault d ns discount f → ⊥
   pub made : g ≡ game_of_texts d ns discount unit
 
 -- the shelf tells the files that a first file names

@@ -1,5 +1,4 @@
 pub mod Deviations
-pub mod Dilemma
 pub mod Products
 pub mod Profiles
 pub mod Sides
