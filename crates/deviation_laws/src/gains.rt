@@ -130,9 +130,13 @@ fn worth_of(
         DevPlan::Play { strategy, plans } => {
             let next = state_after(set, player, state, entry, *strategy);
             let outcomes = outcomes_after(set, player, state, entry, *strategy);
-            plans_follow(
-                set, player, state, entry, *strategy, plans, next, &outcomes, depth,
-            );
+            let turn = Turn {
+                state,
+                entry,
+                strategy: *strategy,
+                next,
+            };
+            plans_follow(set, player, turn, plans, &outcomes, depth);
             let average = average_of(set, player, next, &outcomes, plans, depth)?;
             let _players = set.game().players();
             let now = now_share(
@@ -146,27 +150,33 @@ fn worth_of(
     }
 }
 
+/// A period in which a player plays a strategy at an entry of a state, and the state that comes next.
+#[derive(Clone, Copy)]
+struct Turn {
+    state: u32,
+    entry: u32,
+    strategy: u32,
+    next: u32,
+}
+
 /// A law: where a plan fits and isn't too deep, its plans fit the outcomes and aren't too deep, and some weight isn't 0.
 fn plans_follow(
     set: &Checked,
     player: u32,
-    state: u32,
-    entry: u32,
-    strategy: u32,
+    turn: Turn,
     plans: &Vec<DevPlan>,
-    next: u32,
     outcomes: &Lottery,
     depth: u32,
 )
     requires player { player < set.now.game.players }
-    requires state { state < states set.now.game }
-    requires entry { entry < length (entries_of (correspondence_of set.now.game set.now.corr) state) }
-    requires fits { Fits set.now.game (correspondence_of set.now.game set.now.corr) player state entry (Play strategy plans.now) }
-    requires deep { depth + depth_of (Play strategy plans.now) < 2 ^ 32 }
-    requires next { next ≡ state_after set.now.game state (entry_at (correspondence_of set.now.game set.now.corr) state entry) player strategy }
-    requires outcomes { outcomes.now ≡ outcomes_after set.now.game state (entry_at (correspondence_of set.now.game set.now.corr) state entry) player strategy }
+    requires state { turn.state < states set.now.game }
+    requires entry { turn.entry < length (entries_of (correspondence_of set.now.game set.now.corr) turn.state) }
+    requires fits { Fits set.now.game (correspondence_of set.now.game set.now.corr) player turn.state turn.entry (Play turn.strategy plans.now) }
+    requires deep { depth + depth_of (Play turn.strategy plans.now) < 2 ^ 32 }
+    requires next { turn.next ≡ state_after set.now.game turn.state (entry_at (correspondence_of set.now.game set.now.corr) turn.state turn.entry) player turn.strategy }
+    requires outcomes { outcomes.now ≡ outcomes_after set.now.game turn.state (entry_at (correspondence_of set.now.game set.now.corr) turn.state turn.entry) player turn.strategy }
     ensures weights { 0 < total_weight outcomes.now }
-    ensures fit { FitInTurn set.now.game (correspondence_of set.now.game set.now.corr) player next outcomes.now plans.now.items }
+    ensures fit { FitInTurn set.now.game (correspondence_of set.now.game set.now.corr) player turn.next outcomes.now plans.now.items }
     ensures deep { (j : ℕ) → j < length plans.now.items → depth + 1 + depth_of (slice_index_or plans.now.items j Stop) < 2 ^ 32 }
 {
     let _players = set.game().players();

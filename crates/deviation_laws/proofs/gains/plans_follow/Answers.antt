@@ -10,10 +10,10 @@ pub returns : goal.returns
 returns c =
     let ok : IsGame c.args.set.now.game = subst IsGame c.game.ensures.game c.players-players.ensures.is_game in
     let self : IsSelfGenerating c.args.set.now.game (correspondence_of c.args.set.now.game c.args.set.now.corr) = c.game.ensures.checked.self_generating in
-    let after = follows c.args.set.now.game (correspondence_of c.args.set.now.game c.args.set.now.corr) c.args.state (entry_at (correspondence_of c.args.set.now.game c.args.set.now.corr) c.args.state c.args.entry) c.args.player c.args.strategy ok c.requires.state (self.generated c.args.state c.args.entry c.requires.state c.requires.entry) c.requires.player
-    (play_strategy c.args.set.now.game (correspondence_of c.args.set.now.game c.args.set.now.corr) c.args.player c.args.state c.args.entry c.args.strategy c.args.plans.now c.requires.fits) in
+    let after = follows c.args.set.now.game (correspondence_of c.args.set.now.game c.args.set.now.corr) c.args.turn.state (entry_at (correspondence_of c.args.set.now.game c.args.set.now.corr) c.args.turn.state c.args.turn.entry) c.args.player c.args.turn.strategy ok c.requires.state (self.generated c.args.turn.state c.args.turn.entry c.requires.state c.requires.entry) c.requires.player
+    (play_strategy c.args.set.now.game (correspondence_of c.args.set.now.game c.args.set.now.corr) c.args.player c.args.turn.state c.args.turn.entry c.args.turn.strategy c.args.plans.now c.requires.fits) in
     record {
       weights = rw c.requires.outcomes after.weight;
-      fit = rw (c.requires.next, c.requires.outcomes) (play_fits c.args.set.now.game (correspondence_of c.args.set.now.game c.args.set.now.corr) c.args.player c.args.state c.args.entry c.args.strategy c.args.plans.now c.requires.fits);
-      deep = play_depth c.args.depth (2 ^ 32) c.args.strategy c.args.plans.now c.requires.deep;
+      fit = rw (c.requires.next, c.requires.outcomes) (play_fits c.args.set.now.game (correspondence_of c.args.set.now.game c.args.set.now.corr) c.args.player c.args.turn.state c.args.turn.entry c.args.turn.strategy c.args.plans.now c.requires.fits);
+      deep = play_depth c.args.depth (2 ^ 32) c.args.turn.strategy c.args.plans.now c.requires.deep;
     }
