@@ -1,5 +1,5 @@
 -- Summaries: what other states ask of a state's points.
-use Rattle.std.specs.Prelude.{◌≡◌, ℕ, ◌<◌, ◌≤◌, ◌^◌, ℤ, List, [], length, map, slice_index, slice_index_or, unsigned_abs, All}
+use Rattle.std.specs.Prelude.{◌≡◌, ◌↔◌, ℕ, ◌<◌, ◌≤◌, ◌^◌, ℤ, List, [], length, map, slice_index, slice_index_or, unsigned_abs, All}
 use Rattle.game_model.specs.Game.{DynamicGame, states, successor, IsDeviation, deviation_at, reached}
 use Rattle.game_model.specs.SelfGeneration.{part}
 use Rattle.hull_weights.specs.Hull.{IsInHull, IsSmallPoint, point_at}
@@ -24,6 +24,13 @@ pub record IsSmallSummary (y : PointSummary) : Type 0 where
   pub first_each : length y.first ≡ 2
   pub least_each : length y.least ≡ 2
   pub least_small : (i : ℕ) → i < 2 → unsigned_abs (part y.least i) ≤ 2 ^ 30
+
+-- a small summary, with points that have the hull of its own
+pub record IsKept (y : PointSummary) (corners : List (List ℤ)) : Type 0 where
+  pub summary : IsSmallSummary y
+  pub same_hull : (target : List ℤ) → IsInHull corners target ↔ IsInHull y.points target
+  pub few_corners : length corners < 2 ^ 32
+  pub corners_small : All IsSmallPoint corners
 
 pub record IsSummary (g : DynamicGame) (points : List (List ℤ)) (y : PointSummary) : Type 0 where
   pub same : y.points ≡ map (discounted g) points

@@ -1,7 +1,7 @@
-ghost use Rattle.std.specs.Prelude.{◌≡◌, ◌^◌, ◌<◌, ◌≤◌, ◌↔◌, [], IsTrue, IfOk, length, map, slice_index, slice_index_or, unsigned_abs, All};
+ghost use Rattle.std.specs.Prelude.{◌≡◌, ℤ, List, ◌^◌, ◌<◌, ◌≤◌, ◌↔◌, [], IsTrue, IfOk, length, map, slice_index, slice_index_or, unsigned_abs, All};
 ghost use Rattle.game_model.specs.Game.{states};
 ghost use Rattle.game_model.specs.SelfGeneration.{part};
-ghost use Rattle.hull_weights.specs.Hull.{IsSmallPoint};
+ghost use Rattle.hull_weights.specs.Hull.{IsInHull, IsSmallPoint};
 ghost use Rattle.inner_sets.specs.Choice.{discounted};
 ghost use Rattle.inner_sets.specs.Rows.{choice_of, points_in};
 ghost use Rattle.inner_sets.specs.Summaries.{AreSummaries, IsSummary, summary_at};
@@ -9,6 +9,7 @@ ghost use Rattle.inner_sets.specs.Summaries.{AreSummaries, IsSummary, summary_at
 use crate::row::Row;
 use crate::sizes::discounted_part;
 use game_model::Game;
+use hull_weights::corners;
 use std::alloc::{AllocError, Global};
 use std::marker::Model;
 
@@ -20,16 +21,18 @@ pub(crate) struct Summary {
     /// For each player the first place of the least part, and that part; zeros where there is no point.
     first: [u32; 2],
     least: [i64; 2],
+    /// Points with the same hull, as few as serve.
+    corners: Vec<[i128; 2]>,
 }
 
 impl Model for Summary {
-    ghost use Rattle.inner_sets.specs.Summaries.{IsSmallSummary, PointSummary};
+    ghost use Rattle.inner_sets.specs.Summaries.{IsKept, PointSummary};
 
     ghost Value = { PointSummary };
 
     ghost view = { λ a. record { points = a.points.items; first = a.first; least = a.least } };
 
-    ghost invariant = { λ a. IsSmallSummary (record { points = a.points.items; first = a.first; least = a.least }) };
+    ghost invariant = { λ a. IsKept (record { points = a.points.items; first = a.first; least = a.least }) a.corners.items };
 }
 
 impl Summary {
@@ -41,8 +44,10 @@ impl Summary {
         let points = discounted_points(alloc, game, row)?;
         let (first, least) = row.first_least(0);
         let (first_second, least_second) = row.first_least(1);
+        let corners = corners(alloc, &points)?;
         Ok(Summary {
             points,
+            corners,
             first: [first, first_second],
             least: [least, least_second],
         })
@@ -55,6 +60,15 @@ impl Summary {
         ensures small { All IsSmallPoint result.now }
     {
         &self.points
+    }
+
+    /// Points that have the same hull.
+    pub(crate) fn corners(&self) -> &[[i128; 2]]
+        ensures hull { (target : List ℤ) → IsInHull result.now target ↔ IsInHull self.now.points target }
+        ensures few { length result.now < 2 ^ 32 }
+        ensures small { All IsSmallPoint result.now }
+    {
+        &self.corners
     }
 
     /// Whether there is no point.

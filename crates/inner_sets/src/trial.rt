@@ -8,7 +8,7 @@ ghost use Rattle.inner_sets.specs.Summaries.{Continues, DetersAt, IsDeterredBy, 
 use crate::sizes::{is_at_most, is_small_point, part_of, payoff_share, remainder_part, times};
 use crate::summary::Summary;
 use game_model::Game;
-use hull_weights::{HullAnswer, HullWeights, triangle};
+use hull_weights::{HullAnswer, HullWeights, is_in_hull, triangle};
 
 /// A profile of a state at which points are tried. Points are in units of `1/(denominator*n)`.
 #[derive(Clone, Copy)]
@@ -38,10 +38,10 @@ impl<'a> Trial<'a> {
         requires small { (i : ℕ) → i < 2 → unsigned_abs (part point i) ≤ 2 ^ 30 }
         ensures { IsTrue result ↔ Continues self.now.game.now self.now.n self.now.summaries.now self.now.state self.now.profile point }
     {
-        match self.continuation(point) {
-            Some(_) => true,
-            None => false,
-        }
+        let next = self.summary(self.game.next(self.state, self.profile));
+        let corners = next.corners();
+        let target = self.remainder(point);
+        is_small_point(target) && is_in_hull(corners, target)
     }
 
     /// Weights of the points that follow, whose average is what the point leaves to them.
