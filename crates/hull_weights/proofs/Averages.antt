@@ -1,11 +1,11 @@
 -- Averages of points, and lines that leave them out.
-use Rattle.std.proofs.Common.{◌≡◌, ℕ, suc, ◌+◌, ◌<◌, ◌≤◌, List, [], ◌∷◌, length, get_or, refl, sym, ap, subst, ◌∙◌, inl, inr, arith}
+use Rattle.std.proofs.Common.{◌≡◌, ℕ, zero, suc, ◌+◌, ◌<◌, ◌≤◌, List, [], ◌∷◌, length, get_or, refl, sym, ap, subst, ◌∙◌, inl, inr, arith}
 use Rattle.std.specs.Prelude.{ℤ, pos, ◌+ℤ◌, ◌-ℤ◌, ◌*ℤ◌, ◌≤ℤ◌, ◌<ℤ◌, All}
 use Rattle.std.proofs.lemmas.Int.{ints}
 use Rattle.exact_algebra.specs.Poly.{var, lit, ◌⊕◌, ◌⊖◌, ◌⊗◌}
 use Rattle.exact_algebra.proofs.Normal.{ring, equal_if_apart_by_nought}
 use Rattle.exact_algebra.proofs.Order.{at_most_by, product_at_least_zero, same_from_times, sum_at_least_zero}
-use Rattle.hull_weights.specs.Hull.{x_of, y_of, dot, point_at, weighted, total_weight, IsInHull, Separates, IsTriangle}
+use Rattle.hull_weights.specs.Hull.{x_of, y_of, dot, point_at, weighted, total_weight, IsAverage, IsInHull, Separates, IsTriangle}
 use Rattle.hull_weights.specs.declared.arrow.Arrow.{Arrow}
 use Rattle.hull_weights.specs.declared.cone.Cone.{Cone}
 use Rattle.hull_weights.specs.declared.cone.Cone.TheVariants.{Empty, Ray, Wedge}
@@ -132,6 +132,48 @@ triangle_from_balance points target seen cone latest balance items within spans 
       weights_small = lowest.weights_small;
       no_common_divisor = lowest.no_common_divisor;
     }
+
+three_items : (P : ℕ × ℤ → Type 0) (a b c : ℕ × ℤ) → P a → P b → P c → All P (a ∷ b ∷ c ∷ [])
+three_items P a b c h k l zero d below = h
+three_items P a b c h k l (suc zero) d below = k
+three_items P a b c h k l (suc (suc zero)) d below = l
+three_items P a b c h k l (suc (suc (suc i))) d below = absurd (omega arith)
+
+listed : (a b c x y z : ℤ) → a *ℤ x +ℤ b *ℤ y +ℤ c *ℤ z ≡ pos 0 → a *ℤ x +ℤ (b *ℤ y +ℤ (c *ℤ z +ℤ pos 0)) ≡ pos 0
+listed a b c x y z e =
+    ring (a ∷ b ∷ c ∷ x ∷ y ∷ z ∷ []) (var 0 ⊗ var 3 ⊕ (var 1 ⊗ var 4 ⊕ (var 2 ⊗ var 5 ⊕ lit (pos 0)))) (var 0 ⊗ var 3 ⊕ var 1 ⊗ var 4 ⊕ var 2 ⊗ var 5) refl ∙ e
+
+listed_above : (a b c : ℕ) → 0 < c → pos 0 <ℤ (pos a *ℤ pos 1 +ℤ (pos b *ℤ pos 1 +ℤ (pos c *ℤ pos 1 +ℤ pos 0)))
+listed_above a b c h = omega (arith, ints)
+
+not_below : (n : ℕ) → pos 0 ≤ℤ pos n
+not_below n = omega (arith, ints)
+
+-- the same without the shortest form
+pub hull_from_balance : (points : List (List ℤ)) (target : List ℤ) (seen : ℕ) (cone : Cone) (latest : Arrow) (balance : Balance) → seen < length points → Spans points target seen cone → IsArrow points target (seen + 1) latest → IsBalance cone latest balance → IsInHull points target
+hull_from_balance points target seen cone latest balance within spans arrow cancels =
+    let P = IsArrow points target (seen + 1) in
+    let arrows : EachArrow P cone = each (IsArrow points target seen) P cone (λ a h. earlier_within points target seen (seen + 1) a (omega arith) h) spans.arrows in
+    let first : P balance.first = known_is P cone latest balance.first arrows arrow cancels.first_known in
+    let second : P balance.second = known_is P cone latest balance.second arrows arrow cancels.second_known in
+    let last : P balance.last = subst P (sym cancels.last_is) arrow in
+    let a = pos balance.first_weight in
+    let b = pos balance.second_weight in
+    let c = pos balance.last_weight in
+    let items : List (ℕ × ℤ) = (balance.first.index, a) ∷ (balance.second.index, b) ∷ (balance.last.index, c) ∷ [] in (
+      items,
+      record {
+        indices_within = three_items (λ item. item.0 < length points) (balance.first.index, a) (balance.second.index, b) (balance.last.index, c)
+            (omega (arith, first.seen_already)) (omega (arith, second.seen_already)) (omega (arith, last.seen_already));
+        not_negative = three_items (λ item. pos 0 ≤ℤ item.1) (balance.first.index, a) (balance.second.index, b) (balance.last.index, c)
+            (not_below balance.first_weight) (not_below balance.second_weight) (not_below balance.last_weight);
+        total_positive = listed_above balance.first_weight balance.second_weight balance.last_weight cancels.ordered.last_counts;
+        average_x = average_from_nought (λ i. x_of (point_at points i)) (x_of target) items
+            (listed a b c _ _ _ (rewritten a b c _ _ _ _ _ _ first.x_is second.x_is last.x_is cancels.cancels_x));
+        average_y = average_from_nought (λ i. y_of (point_at points i)) (y_of target) items
+            (listed a b c _ _ _ (rewritten a b c _ _ _ _ _ _ first.y_is second.y_is last.y_is cancels.cancels_y));
+      },
+    )
 
 -- ---- a line beside the cone
 line_apart : (nx ny px py tx ty : ℤ) → (nx *ℤ (px -ℤ tx) +ℤ ny *ℤ (py -ℤ ty)) <ℤ pos 0 → (nx *ℤ px +ℤ ny *ℤ py) <ℤ (nx *ℤ tx +ℤ ny *ℤ ty)

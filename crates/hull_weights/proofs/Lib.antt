@@ -4,3 +4,4 @@ pub mod Cones
 pub mod Balances
 pub mod Lowest
 pub mod Averages
+pub mod Hulls

@@ -2,3 +2,4 @@ pub mod Hull
 pub mod Answer
 pub mod Cone
 pub mod LowestTerms
+pub mod SameHull

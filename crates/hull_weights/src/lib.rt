@@ -8,10 +8,12 @@ ghost use Rattle.hull_weights.specs.Hull.{IsInHull, IsSmallNormal, IsSmallPoint,
 
 mod arrow;
 mod cone;
+mod fewer;
 mod lowest_terms;
 
 use arrow::Arrow;
 use cone::{Balance, Cone, Step};
+pub use fewer::{corners, is_in_hull};
 use lists::Few;
 
 /// Indices of points with their weights, at most three.

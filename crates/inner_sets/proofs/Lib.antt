@@ -1,0 +1,14 @@
+pub mod Choices
+pub mod Dilemma
+pub mod Gains
+pub mod Hulls
+pub mod Leasts
+pub mod Lists
+pub mod Punishing
+pub mod Ranges
+pub mod Rounds
+pub mod Sets
+pub mod SmallParts
+pub mod Starts
+pub mod Steps
+pub mod WorkedRows

@@ -1,0 +1,9 @@
+pub mod Built
+pub mod Candidates
+pub mod Choice
+pub mod Gains
+pub mod Inner
+pub mod Rows
+pub mod Summaries
+pub mod Trials
+pub mod Worked
