@@ -1,8 +1,8 @@
 //! What the words of a line are.
 
-ghost use Rattle.report_lines.specs.Forms.{any as any_of, behind as behind_word, count_of, ends as ends_there, fraction as fraction_at, item as item_at, next_of, one as one_of, or_else as or_first, pair as pair_at, some as some_of, the as the_word, whole as whole_at};
+ghost use Rattle.report_lines.specs.Forms.{any as any_of, behind as behind_word, count_of, ends as ends_there, fraction as fraction_at, item as item_at, next_of, one as one_of, pair as pair_at, some as some_of, the as the_word, whole as whole_at};
 ghost use Rattle.report_lines.specs.Words.{words_of};
-ghost use Rattle.std.specs.Prelude.{◌≡◌, Some};
+ghost use Rattle.std.specs.Prelude.{◌≡◌, ◌↔◌, IsTrue, None, Some};
 ghost use Rattle.std.specs.Str.{bytes_eq};
 
 use crate::spelled::{is_fraction, is_pair, is_whole};
@@ -170,21 +170,20 @@ impl<'a> Pattern<'a> {
     {
         let mut last = self.same();
         for _ in 0..self.count() {
-            last = last.further(kind);
+            let next = last.one(kind);
+            if next.is_none() {
+                return last;
+            }
+            last = next;
         }
         last
     }
 
-    /// Behind one of a kind, if it comes next.
-    fn further(&self, kind: Kind) -> Pattern<'a>
-        ensures { result ≡ or_first self.now (one_of kind self.now) }
+    /// Whether a word wasn't what it was to be.
+    fn is_none(&self) -> bool
+        ensures { IsTrue result ↔ (self.now ≡ None) }
     {
-        let next = self.one(kind);
-        if next.words.is_some() {
-            next
-        } else {
-            self.same()
-        }
+        self.words.is_none()
     }
 
     /// Behind one or more of a kind.
