@@ -1,59 +1,32 @@
--- The prisoner's dilemma keeps the limits of a game.
-use Rattle.std.proofs.Common.{◌≡◌, ℕ, zero, suc, ◌*◌, ◌^◌, ◌<◌, ◌≤◌, List, [], ◌∷◌, length, get_or, refl, arith, lit<, lit≤}
-use Rattle.std.specs.Prelude.{ℤ, pos, ◌≤ℤ◌, neg_ℤ, slice_index}
-use Rattle.std.proofs.lemmas.Int.{ints}
-use Rattle.game_model.specs.Game.{counts}
+-- The prisoner's dilemma keeps the limits of a game at a lower discount factor too.
+use Rattle.std.proofs.Common.{◌≡◌, ℕ, zero, suc, ◌+◌, ◌*◌, ◌<◌, ◌≤◌, refl, arith, lit<, lit≤}
 use Rattle.game_model.specs.Parts.{KeepLimits}
-use Rattle.game_model.specs.Worked.{prisoners}
+use Rattle.game_model.proofs.Cases.{two_at, divides_one}
+use Rattle.game_model.proofs.Dilemma.{dilemma_keeps_limits}
+use Rattle.selfgen_check.specs.TestGames.{dilemma}
 
-dilemma_payoffs : List ℤ
-dilemma_payoffs = pos 2 ∷ pos 2 ∷ pos 3 ∷ pos 0 ∷ pos 0 ∷ pos 3 ∷ pos 1 ∷ pos 1 ∷ []
+one_apart : (d x y : ℕ) → d * x ≡ 1 + d * y → d ≤ 1
+one_apart d x zero e = divides_one d x (omega (arith, e))
+one_apart d zero (suc y) e = absurd (omega (arith, e))
+one_apart d (suc x) (suc y) e = one_apart d x y (omega (arith, e))
 
-in_range : (x : ℕ) → x ≤ 3 → (neg_ℤ (pos (2 ^ 26)) ≤ℤ pos x) × (pos x ≤ℤ pos (2 ^ 26))
-in_range x h = (omega (arith, ints), omega (arith, ints))
-
-payoffs_within : (k : ℕ) → k < 8 → (neg_ℤ (pos (2 ^ 26)) ≤ℤ get_or dilemma_payoffs k (pos 0)) × (get_or dilemma_payoffs k (pos 0) ≤ℤ pos (2 ^ 26))
-unfolding dilemma_payoffs
-payoffs_within zero h = in_range 2 (lit≤ tt)
-payoffs_within (suc zero) h = in_range 2 (lit≤ tt)
-payoffs_within (suc (suc zero)) h = in_range 3 (lit≤ tt)
-payoffs_within (suc (suc (suc zero))) h = in_range 0 (lit≤ tt)
-payoffs_within (suc (suc (suc (suc zero)))) h = in_range 0 (lit≤ tt)
-payoffs_within (suc (suc (suc (suc (suc zero))))) h = in_range 3 (lit≤ tt)
-payoffs_within (suc (suc (suc (suc (suc (suc zero)))))) h = in_range 1 (lit≤ tt)
-payoffs_within (suc (suc (suc (suc (suc (suc (suc zero))))))) h = in_range 1 (lit≤ tt)
-payoffs_within (suc (suc (suc (suc (suc (suc (suc (suc k)))))))) h = absurd (omega arith)
-
-two_at : (x : ℕ) (P : ℕ → Type 0) → P x → (i : ℕ) → i < 2 → P (get_or (x ∷ x ∷ []) i 0)
-two_at x P a zero h = a
-two_at x P a (suc zero) h = a
-two_at x P a (suc (suc i)) h = absurd (omega arith)
-
-divides_one : (d k : ℕ) → 1 ≡ d * k → d ≤ 1
-divides_one d zero e = absurd (omega arith)
-divides_one d (suc k) e = omega arith
-
-one_state : (P : ℕ → Type 0) → P 0 → (s : ℕ) → s < 1 → P s
-one_state P a zero h = a
-one_state P a (suc s) h = absurd (omega arith)
-
-pub dilemma_keeps_limits : KeepLimits (prisoners 1 2)
-unfolding dilemma_payoffs
-dilemma_keeps_limits = record {
-  two_players = lit≤ tt;
-  three_players = lit≤ tt;
-  some_state = lit≤ tt;
-  few_states = lit≤ tt;
-  payoffs_listed = refl;
-  next_listed = refl;
-  some_strategy = λ s i hs hi. one_state (λ s. (i : ℕ) → i < length (counts (prisoners 1 2) s) → 1 ≤ slice_index (counts (prisoners 1 2) s) i) (two_at 2 (λ m. 1 ≤ m) (lit≤ tt)) s hs i hi;
-  few_strategies = λ s i hs hi. one_state (λ s. (i : ℕ) → i < length (counts (prisoners 1 2) s) → slice_index (counts (prisoners 1 2) s) i ≤ 16) (two_at 2 (λ m. m ≤ 16) (lit≤ tt)) s hs i hi;
-  payoffs_small = λ s k hs hk. one_state (λ s. (k : ℕ) → k < length (get_or (prisoners 1 2).payoffs s []) → (neg_ℤ (pos (2 ^ 26)) ≤ℤ get_or (get_or (prisoners 1 2).payoffs s []) k (pos 0)) × (get_or (get_or (prisoners 1 2).payoffs s []) k (pos 0) ≤ℤ pos (2 ^ 26))) payoffs_within s hs k hk;
-  denominator_positive = omega (arith, ints);
-  denominator_small = omega (arith, ints);
+-- 499 * 499 is 1 more than 249 * 1000
+pub impatient_keeps_limits : KeepLimits (dilemma 499 1000)
+impatient_keeps_limits = let half = dilemma_keeps_limits in record {
+  two_players = half.two_players;
+  three_players = half.three_players;
+  some_state = half.some_state;
+  few_states = half.few_states;
+  payoffs_listed = half.payoffs_listed;
+  next_listed = half.next_listed;
+  some_strategy = half.some_strategy;
+  few_strategies = half.few_strategies;
+  payoffs_small = half.payoffs_small;
+  denominator_positive = half.denominator_positive;
+  denominator_small = half.denominator_small;
   discounts_listed = refl;
-  discounts_positive = two_at 1 (λ p. 0 < p) (lit< tt);
-  discounts_below = two_at 1 (λ p. p < 2) (lit< tt);
+  discounts_positive = two_at 499 (λ p. 0 < p) (lit< tt);
+  discounts_below = two_at 499 (λ p. p < 1000) (lit< tt);
   q_small = lit≤ tt;
-  lowest = λ d whole each. let e = each 0 (lit< tt) in divides_one d e.0 e.1;
+  lowest = λ d whole each. let e = each 0 (lit< tt) in one_apart d (499 * e.0) (249 * whole.0) (omega (arith, e.1, whole.1));
 }

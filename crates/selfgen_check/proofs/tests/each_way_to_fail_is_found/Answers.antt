@@ -1,6 +1,6 @@
 use Rattle.std.proofs.Common.{sym, subst}
 use Rattle.game_model.specs.Parts.{KeepLimits}
-use Rattle.selfgen_check.proofs.Dilemma.{dilemma_keeps_limits}
+use Rattle.game_model.proofs.Dilemma.{dilemma_keeps_limits}
 use Rattle.selfgen_check.proofs.tests.each_way_to_fail_is_found.Goals as goal
 
 pub build-requires : goal.build-requires
