@@ -1,3 +1,4 @@
+pub mod Again
 pub mod Capped
 pub mod Deviations
 pub mod Dilemma
@@ -6,6 +7,7 @@ pub mod Keeps
 pub mod Measuring
 pub mod Products
 pub mod Profiles
+pub mod Round
 pub mod Shaped
 pub mod Sides
 pub mod Steps

@@ -8,5 +8,6 @@ pub mod Parts
 pub mod Promises
 pub mod Sets
 pub mod Shapes
+pub mod Spelled
 pub mod TestGames
 pub mod TextFaults

@@ -5,6 +5,8 @@ ghost use Rattle.std.specs.List.{flat_map};
 ghost use Rattle.nfg_text.specs.Canonical.{braced, counts_text};
 ghost use Rattle.selfgen_check.specs.Canonical.{part_text, pair_text, entry_line, state_lines, canonical};
 ghost use Rattle.selfgen_check.specs.Limits.{KeepsLimits};
+ghost use Rattle.selfgen_check.specs.Measures.{corr_of, measured};
+ghost use Rattle.selfgen_check.specs.Spelled.{IsWritable, fractions_of};
 
 use crate::corr::Corr;
 use crate::entry::Entry;
@@ -15,12 +17,22 @@ use pay_frac::Frac;
 use std::alloc::{AllocError, Global};
 use token_text::{Text, put};
 
-/// The canonical text of a correspondence, with its points in lowest terms. The condition is that of `check`.
+/// The canonical text of a correspondence, with its points in lowest terms. The condition is that of `check`. Where a text
+/// can have the correspondence at all, this one reads as the same entries, over the least common denominator that serves.
 ///
 /// # Errors
 ///
 /// Want of memory, which here also is a text of 2^32 bytes or more.
 pub fn write_corr(alloc: Global, game: &Game, corr: &Corr) -> Result<Text, AllocError>
+    requires { KeepsLimits game.now corr.now }
+    ensures text { IfOk result (λ t. t ≡ canonical corr.now) }
+    ensures again { IfOk result (λ t. IsWritable game.now corr.now → corr_of game.now t ≡ measured game.now (fractions_of corr.now)) }
+{
+    canonical_text(alloc, game, corr)
+}
+
+/// The canonical text.
+fn canonical_text(alloc: Global, game: &Game, corr: &Corr) -> Result<Text, AllocError>
     requires { KeepsLimits game.now corr.now }
     ensures { IfOk result (λ t. t ≡ canonical corr.now) }
 {
