@@ -261,7 +261,7 @@ fn comment(alloc: Global, tokens: &mut Lexer<'_>) -> Result<Option<Text>, NfgFau
 }
 
 /// So many numbers.
-fn numbers(alloc: Global, tokens: &mut Lexer<'_>, count: u32) -> Result<List<Frac>, NfgFault>
+pub fn numbers(alloc: Global, tokens: &mut Lexer<'_>, count: u32) -> Result<List<Frac>, NfgFault>
     ensures { Reads (λ ps. ps) result tokens.new (times_at number_at count tokens.old) }
 {
     let mut numbers = List::new(alloc);

@@ -11,7 +11,7 @@ mod worked;
 pub mod writing;
 
 pub use fault::NfgFault;
-pub use gambit::read_nfg;
+pub use gambit::{numbers, read_nfg};
 pub use nfg::{Nfg, Strategies};
 pub use what::What;
 pub use worked::{faults_of_files, read_games_keep_their_form, writable_game};

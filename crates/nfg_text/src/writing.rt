@@ -99,7 +99,7 @@ pub fn number<I: Integer>(out: &mut Text, n: I) -> Result<(), AllocError>
 }
 
 /// A fraction in lowest terms.
-fn ratio(out: &mut Text, f: Frac) -> Result<(), AllocError>
+pub fn ratio(out: &mut Text, f: Frac) -> Result<(), AllocError>
     ensures { OnOk result (out.new ≡ out.old ++ ratio_text f) }
 {
     number(out, f.num())?;

@@ -1,5 +1,14 @@
+pub mod Again
+pub mod Capped
 pub mod Deviations
+pub mod Dilemma
+pub mod Givers
+pub mod Keeps
+pub mod Measuring
 pub mod Products
 pub mod Profiles
+pub mod Round
+pub mod Shaped
 pub mod Sides
+pub mod Steps
 pub mod Weights

@@ -1,6 +1,13 @@
+pub mod Canonical
 pub mod Claims
 pub mod Faults
+pub mod Grammar
 pub mod Limits
+pub mod Measures
 pub mod Parts
 pub mod Promises
 pub mod Sets
+pub mod Shapes
+pub mod Spelled
+pub mod TestGames
+pub mod TextFaults

@@ -1,0 +1,7 @@
+use Rattle.std.proofs.Common.{◌≡◌, ◌++◌, take}
+use Rattle.std.specs.List.{flat_map}
+use Rattle.selfgen_check.specs.Canonical.{pair_text}
+use Rattle.selfgen_check.proofs.writing.pairs.Given as goal
+
+abbrev pub invariant-loop-i : goal.invariant-loop-i
+invariant-loop-i l = l.out ≡ l.initial.out ++ flat_map pair_text (take l.i l.lottery)
