@@ -13,20 +13,26 @@ use crate::trial::Trial;
 use game_model::{Game, List};
 use selfgen_check::{Checked, Corr, Entry, check};
 use std::alloc::{AllocError, Global};
+use std::thread::Threads;
 
 /// The inner set of a game at `n`: the largest choice of candidates, a list for each state, in which each point has a
 /// profile such that what the point leaves to those that follow is an average of the next state's points, and no
 /// deviation gains where the least point of the state that it reaches follows (self-generation as of Abreu, Pearce and
 /// Stacchetti 1990, with punishments as of Yeltekin, Cai and Judd 2017). The common denominator is `denominator*n`. Each
 /// entry has the first such profile, and for each deviation the first least point. It has passed the check.
-pub fn largest<'g>(alloc: Global, game: &'g Game, n: u32) -> Result<Checked<'g>, AllocError>
+pub fn largest<'g, R: Threads + Sync>(
+    rt: &R,
+    alloc: Global,
+    game: &'g Game,
+    n: u32,
+) -> Result<Checked<'g>, AllocError>
     requires players { game.now.players ≡ 2 }
     requires n_positive { 1 ≤ n }
     requires n_small { n ≤ 16 }
     ensures game { IfOk result (λ set. set.game ≡ game.now) }
     ensures inner { IfOk result (λ set. IsInnerSet game.now n set.corr) }
 {
-    let corr = correspondence(alloc, game, n)?;
+    let corr = correspondence(rt, alloc, game, n)?;
     match check(game, corr) {
         Ok(set) => Ok(set),
         Err(_) => unreachable!(),
@@ -34,14 +40,19 @@ pub fn largest<'g>(alloc: Global, game: &'g Game, n: u32) -> Result<Checked<'g>,
 }
 
 /// The same before the check.
-fn correspondence(alloc: Global, game: &Game, n: u32) -> Result<Corr, AllocError>
+fn correspondence<R: Threads + Sync>(
+    rt: &R,
+    alloc: Global,
+    game: &Game,
+    n: u32,
+) -> Result<Corr, AllocError>
     requires players { game.now.players ≡ 2 }
     requires n_positive { 1 ≤ n }
     requires n_small { n ≤ 16 }
     ensures { IfOk result (IsReady game.now n) }
 {
     let _players = game.players();
-    let rows = settle(alloc, game, n)?;
+    let rows = settle(rt, alloc, game, n)?;
     let summaries = summaries_of(alloc, game, &rows)?;
     let entries = all_entries(alloc, game, n, &summaries, &rows)?;
     Ok(Corr::new(common(game, n), entries))

@@ -1,15 +1,22 @@
-ghost use Rattle.std.specs.Prelude.{◌≡◌, ◌≤◌, length, sum_by, IfOk};
+ghost use Rattle.std.specs.Prelude.{◌≡◌, ◌<◌, ◌≤◌, length, sum_by, IfOk};
 ghost use Rattle.game_model.specs.Game.{states};
-ghost use Rattle.inner_sets.specs.Rows.{AreOpen, AreRefined, AreSettled};
+ghost use Rattle.inner_sets.specs.Rows.{AreOpen, AreRefined, AreSettled, IsRefined};
 
 use crate::lattice::candidates;
 use crate::row::Row;
 use crate::summary::{Summary, summaries_of};
 use game_model::Game;
+use rayon::prelude::*;
 use std::alloc::{AllocError, Global};
+use std::thread::Threads;
 
 /// The largest choice of candidates in which each point is given by its first profile.
-pub(crate) fn settle(alloc: Global, game: &Game, n: u32) -> Result<Vec<Row>, AllocError>
+pub(crate) fn settle<R: Threads + Sync>(
+    rt: &R,
+    alloc: Global,
+    game: &Game,
+    n: u32,
+) -> Result<Vec<Row>, AllocError>
     requires players { game.now.players ≡ 2 }
     requires n_positive { 1 ≤ n }
     requires n_small { n ≤ 16 }
@@ -20,7 +27,7 @@ pub(crate) fn settle(alloc: Global, game: &Game, n: u32) -> Result<Vec<Row>, All
     let mut left = points_left(&rows);
     'rounds: loop {
         let summaries = summaries_of(alloc, game, &rows)?;
-        refine(game, n, &summaries, &mut rows);
+        refine(rt, game, n, &summaries, &mut rows);
         let now = points_left(&rows);
         if now == left {
             return Ok(rows);
@@ -57,15 +64,25 @@ fn points_left(rows: &[Row]) -> u64
     left
 }
 
-/// One round: each row is refined by what the others had before it.
-fn refine(game: &Game, n: u32, summaries: &[Summary], rows: &mut [Row])
+/// One round: each row is refined by what the others had before it, in threads that share the states.
+fn refine<R: Threads + Sync>(rt: &R, game: &Game, n: u32, summaries: &[Summary], rows: &mut [Row])
     requires players { game.now.players ≡ 2 }
     requires n { n ≤ 16 }
     requires one_summary_each { length summaries.now ≡ states game.now }
     requires one_row_each { length rows.old ≡ states game.now }
     ensures { AreRefined game.now n summaries.now rows.old rows.new }
 {
-    for s in 0..game.states() {
-        rows[s as usize].refine(game, n, summaries, s);
-    }
+    let _players = game.players();
+    par_for_each_mut(
+        rt,
+        rows,
+        |s: usize, row: &mut Row|
+            requires players { game.now.players ≡ 2 }
+            requires n { n ≤ 16 }
+            requires one_each { length summaries.now ≡ states game.now }
+            requires state { s < states game.now }
+            requires few { s < 64 }
+            ensures { IsRefined game.entry.now n summaries.entry.now s row.old row.new }
+        { row.refine(game, n, summaries, s as u32) },
+    );
 }

@@ -111,10 +111,10 @@ fn cooperation_needs_patience(rt: HostRuntime) -> Result<(), Fail> {
     for k in 0..6 {
         assert_eq!(rt; *points.get(k), CANDIDATES[k as usize]);
     }
-    let set = largest(rt.alloc(), &patient, 1)?;
+    let set = largest(&rt, rt.alloc(), &patient, 1)?;
     assert_eq!(rt; set.corr().common(), 1);
     assert!(rt; are_entries(set.corr(), &[DEFECTION, COOPERATION]));
-    let set = largest(rt.alloc(), &impatient, 1)?;
+    let set = largest(&rt, rt.alloc(), &impatient, 1)?;
     assert!(rt; are_entries(set.corr(), &[DEFECTION]));
     Ok(())
 }

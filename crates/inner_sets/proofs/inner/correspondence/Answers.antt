@@ -12,12 +12,12 @@ use Rattle.inner_sets.proofs.Steps.{common_positive}
 use Rattle.inner_sets.proofs.inner.correspondence.Goals as goal
 
 pub new-requires : goal.new-requires
-new-requires c =
+new-requires g c =
     let fits : FitsSigned w64 c.common.result = search rules in
     subst (λ (z : ℤ). pos 0 <ℤ z) (sym (to_z-of_z w64 c.common.result fits ∙ c.common.ensures)) (common_positive c.args.game.now.denominator c.args.n c.players-players.ensures.is_game.denominator_positive c.requires.n_positive)
 
 pub returns : goal.returns
-returns c =
+returns g c =
     let fits : FitsSigned w64 c.common.result = search rules in
     let are : AreSummaries c.args.game.now (choice_of c.in_ok-rows.rows.items) c.in_ok-summaries.summaries.items = subst (λ (xs : List (List Item)). AreSummaries c.args.game.now (choice_of xs) c.in_ok-summaries.summaries.items) c.deref.ensures.value (c.in_ok-summaries.ensures {u = tt}) in
     let built : AllBuilt c.args.game.now c.args.n c.in_ok-summaries.summaries.items c.in_ok-rows.rows.items c.in_ok-entries.entries =

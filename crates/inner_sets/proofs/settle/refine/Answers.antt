@@ -1,17 +1,18 @@
-use Rattle.std.proofs.Common.{◌≡◌, ◌<◌, List, [], length, get_or, subst, ◌∙◌, arith}
-use Rattle.std.proofs.lemmas.List.{get_or_default, length-set}
+use Rattle.std.proofs.Common.{List, [], subst, arith}
 use Rattle.inner_sets.specs.declared.item.Item.{Item}
-use Rattle.inner_sets.specs.Rows.{row_at, IsRefined}
-use Rattle.inner_sets.proofs.Steps.{refined_more, rows_rest}
+use Rattle.inner_sets.specs.Rows.{IsRefined, row_at}
 use Rattle.inner_sets.proofs.settle.refine.Goals as goal
 
-pub loop-s-preserved : goal.loop-s-preserved
-loop-s-preserved c =
-    let below : c.loop-s.s < length c.loop-s.rows = omega (arith, c.loop-s-test.true, c.states-s-end.ensures, c.loop-s.invariant.same, c.requires.one_row_each) in
-    let row : get_or c.loop-s.rows c.loop-s.s c.index-rows-s.result ≡ row_at c.loop-s.rows c.loop-s.s = get_or_default c.loop-s.rows c.loop-s.s c.index-rows-s.result [] below in
-    let here : IsRefined c.args.game.now c.args.n c.args.summaries.now c.loop-s.s (row_at c.loop-s.rows c.loop-s.s) c.refine.new.self = subst (λ (r : List Item). IsRefined c.args.game.now c.args.n c.args.summaries.now c.loop-s.s r c.refine.new.self) row c.refine.ensures in
-    record {
-      same = length-set c.loop-s.rows c.loop-s.s c.refine.new.self ∙ c.loop-s.invariant.same;
-      done = refined_more c.args.game.now c.args.n c.args.summaries.now c.args.rows.now c.loop-s.rows c.loop-s.s c.refine.new.self c.loop-s.invariant.same below c.loop-s.invariant.done c.loop-s.invariant.rest here;
-      rest = rows_rest c.args.game.now c.args.n c.args.summaries.now c.args.rows.now c.loop-s.rows c.loop-s.s c.refine.new.self c.loop-s.invariant.same below c.loop-s.invariant.rest;
-    }
+pub par_for_each_mut-requires-after_bounds : goal.par_for_each_mut-requires-after_bounds
+par_for_each_mut-requires-after_bounds g c = λ a b i p below is.
+    let few = c.players-players.ensures.is_game.few_states in
+    (c.requires.players, (c.requires.n, (c.requires.one_summary_each, (omega (arith, below, c.requires.one_row_each), omega (arith, below, few, c.requires.one_row_each)))))
+
+pub returns : goal.returns
+returns g c = record {
+  same_length = c.par_for_each_mut.auto.s;
+  each = λ s state.
+      let at = (c.par_for_each_mut.ensures s [] (omega (arith, state, c.requires.one_row_each))).1 in
+      subst (λ (old : List Item). IsRefined c.args.game.now c.args.n c.args.summaries.now s old (row_at c.par_for_each_mut.new.s s)) at.argument_is
+      (subst (λ (new : List Item). IsRefined c.args.game.now c.args.n c.args.summaries.now s at.argument.now new) at.left at.call);
+}

@@ -8,7 +8,7 @@ use Rattle.inner_sets.proofs.Rounds.{open_after, sum_shrinks, settled_after}
 use Rattle.inner_sets.proofs.settle.settle.Goals as goal
 
 pub rounds-preserved : goal.rounds-preserved
-rounds-preserved c =
+rounds-preserved g c =
     let are : AreSummaries c.args.game.now (choice_of c.rounds.rows.items) c.in_ok-summaries.summaries.items = subst (λ (xs : List (List Item)). AreSummaries c.args.game.now (choice_of xs) c.in_ok-summaries.summaries.items) c.deref-in-rounds.ensures.value (c.in_ok-summaries.ensures {u = tt}) in
     let refined : AreRefined c.args.game.now c.args.n c.in_ok-summaries.summaries.items c.rounds.rows.items c.refine.new.rows =
     subst (λ (ys : List PointSummary). AreRefined c.args.game.now c.args.n ys c.rounds.rows.items c.refine.new.rows) c.deref-in-rounds-2.ensures.value
@@ -21,7 +21,7 @@ rounds-preserved c =
     }
 
 pub rounds-smaller : goal.rounds-smaller
-rounds-smaller c =
+rounds-smaller g c =
     let are : AreSummaries c.args.game.now (choice_of c.rounds.rows.items) c.in_ok-summaries.summaries.items = subst (λ (xs : List (List Item)). AreSummaries c.args.game.now (choice_of xs) c.in_ok-summaries.summaries.items) c.deref-in-rounds.ensures.value (c.in_ok-summaries.ensures {u = tt}) in
     let refined : AreRefined c.args.game.now c.args.n c.in_ok-summaries.summaries.items c.rounds.rows.items c.refine.new.rows =
     subst (λ (ys : List PointSummary). AreRefined c.args.game.now c.args.n ys c.rounds.rows.items c.refine.new.rows) c.deref-in-rounds-2.ensures.value
@@ -34,7 +34,7 @@ rounds-smaller c =
     omega (arith, total, shrinks, c.rounds.invariant.count)
 
 pub returns-then-now-left : goal.returns-then-now-left
-returns-then-now-left c =
+returns-then-now-left g c =
     let are : AreSummaries c.args.game.now (choice_of c.rounds.rows.items) c.in_ok-summaries.summaries.items = subst (λ (xs : List (List Item)). AreSummaries c.args.game.now (choice_of xs) c.in_ok-summaries.summaries.items) c.deref-in-rounds.ensures.value (c.in_ok-summaries.ensures {u = tt}) in
     let refined : AreRefined c.args.game.now c.args.n c.in_ok-summaries.summaries.items c.rounds.rows.items c.refine.new.rows =
     subst (λ (ys : List PointSummary). AreRefined c.args.game.now c.args.n ys c.rounds.rows.items c.refine.new.rows) c.deref-in-rounds-2.ensures.value

@@ -1,6 +1,6 @@
-use Rattle.std.proofs.Common.{◌≡◌, ℕ, ◌<◌, ◌≤◌, ◌^◌, List, [], ◌∷◌, length, refl, subst, arith, to_z, of_z}
+use Rattle.std.proofs.Common.{◌≡◌, ◌<◌, List, [], ◌∷◌, length, refl, subst, arith, to_z, of_z}
 use mir.Syntax.{w64}
-use Rattle.std.specs.Prelude.{ℤ, ◌↔◌, slice_index, unsigned_abs}
+use Rattle.std.specs.Prelude.{ℤ, ◌↔◌, slice_index}
 use Rattle.std.proofs.lemmas.Int.{ints}
 use Rattle.std.proofs.lemmas.List.{length-map}
 use Rattle.game_model.specs.SelfGeneration.{part}

@@ -2,8 +2,7 @@ use Rattle.std.proofs.Common.{◌≡◌, List, sym, ap, subst, ◌∙◌}
 use Rattle.std.specs.Prelude.{ℤ}
 use Rattle.std.proofs.lemmas.Bool.{false≢true}
 use Rattle.game_model.specs.Game.{successor}
-use Rattle.hull_weights.specs.Hull.{IsInHull, IsSmallPoint}
-use Rattle.inner_sets.specs.Choice.{remainder}
+use Rattle.hull_weights.specs.Hull.{IsInHull}
 use Rattle.inner_sets.specs.Summaries.{PointSummary, summary_at}
 use Rattle.inner_sets.proofs.Hulls.{hull_small}
 use Rattle.inner_sets.proofs.trial.Trial.continues.Goals as goal
