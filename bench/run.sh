@@ -1,20 +1,19 @@
 #!/bin/sh
-# Times the built program over the example games, repeated and dynamic, in 4 and in 16 directions, by 1, 2 and 4 workers, a line each. It is no
-# test.
+# Times the built program over the example games, repeated and dynamic, in 4 and in 16 directions, by 1, 2 and 4 workers, and the check of
+# a large set, which bench/set.sh writes, a line each. It is no test.
 top=$(CDPATH='' cd -- "$(dirname -- "$0")/.." && pwd) || exit 1
 program=$top/crates/payoff_cli/out/payoff_cli
 cd "$top" || exit 1
 [ -x "$program" ] || "$top/payoff" solve >/dev/null 2>&1 # a missing word: builds, and is refused
 [ -x "$program" ] || { echo 'bench: build the program first: ./payoff solve examples/pd.nfg' >&2; exit 1; }
 
-# The time of one run of a game in so many directions by so many workers.
+# The time of one run with these words, under this name.
 measure() {
-    game=$1
-    words="discount=1/2 directions=$2 workers=$3"
-    name="$(basename "$game") $words"
+    name=$1
+    words=$2
     if command -v hyperfine >/dev/null 2>&1; then
         # shellcheck disable=SC2086
-        hyperfine --style none --shell=none --ignore-failure --warmup 3 --export-csv /tmp/payoff-bench.$$ "$program solve $game $words" >/dev/null 2>&1
+        hyperfine --style none --shell=none --ignore-failure --warmup 3 --export-csv /tmp/payoff-bench.$$ "$program $words" >/dev/null 2>&1
         printf '%s %s s\n' "$name" "$(tail -n 1 /tmp/payoff-bench.$$ | cut -d, -f2)"
         rm -f /tmp/payoff-bench.$$
     else
@@ -22,7 +21,7 @@ measure() {
         runs=0
         while [ $runs -lt 20 ]; do
             # shellcheck disable=SC2086
-            "$program" solve "$game" $words >/dev/null 2>&1
+            "$program" $words >/dev/null 2>&1
             runs=$((runs + 1))
         done
         end=$(date +%s%N)
@@ -33,7 +32,14 @@ measure() {
 for game in examples/*.nfg examples/*.dyn; do
     for directions in 4 16; do
         for workers in 1 2 4; do
-            measure "$game" $directions $workers
+            words="discount=1/2 directions=$directions workers=$workers"
+            measure "$(basename "$game") $words" "solve $game $words"
         done
     done
 done
+
+dir=$(mktemp -d)
+sh bench/set.sh "$dir"
+"$program" check "$dir/game.dyn" "$dir/set.sgc" discount=1/2 || echo 'bench: the set was to hold' >&2
+measure 'check of 64 states with 1000 entries each' "check $dir/game.dyn $dir/set.sgc discount=1/2"
+rm -rf "$dir"

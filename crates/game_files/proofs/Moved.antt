@@ -26,7 +26,7 @@ text_fault now old id asked f same h = record { bytes = h.bytes; stands = stands
 rose : (before mid after : ℕ) → before ≤ mid → Rose mid after → Rose before after
 rose before mid after le r = ⊎_elim (λ (l : mid < after). inl (omega arith)) (λ (e : after ≡ 2 ^ 64 - 1). inr e) r
 
-load_fault : (now old : List ℕ → Option (List ℕ)) (most : ℕ) (id : FileId) (asked : List ℕ) (before mid after : Counts) (r : GameFault) → ((n : List ℕ) → now n ≡ old n) → before.faults ≤ mid.faults → before.overlong ≤ mid.overlong
+pub load_fault : (now old : List ℕ → Option (List ℕ)) (most : ℕ) (id : FileId) (asked : List ℕ) (before mid after : Counts) (r : GameFault) → ((n : List ℕ) → now n ≡ old n) → before.faults ≤ mid.faults → before.overlong ≤ mid.overlong
     → IsLoadFault now most id asked mid after r → IsLoadFault old most id asked before after r
 load_fault now old most id asked before mid after (ReadFault file) same faults overlong h = (h.0, rose before.faults mid.faults after.faults faults h.1)
 load_fault now old most id asked before mid after (TooLong file) same faults overlong h =

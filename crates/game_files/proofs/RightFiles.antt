@@ -23,15 +23,15 @@ use Rattle.game_files.specs.Files.{longest_file, first_of, file_of, game_in, no_
 use Rattle.game_files.specs.Causes.{AreRight, AreTold, HasFault, IsAsked, IsBuildRefusal, IsFileFault, IsFilesFault, IsLoadFault, IsNoGame, IsOneFault, IsReadFault, IsTextFault}
 
 -- ---- one text under a name that is told
-same_text : (o : Option (List ℕ)) (xs ys : List ℕ) → (o ≡ None → ⊥) → IfSome o (λ b. xs ≡ b) → IfSome o (λ b. ys ≡ b) → xs ≡ ys
+pub same_text : (o : Option (List ℕ)) (xs ys : List ℕ) → (o ≡ None → ⊥) → IfSome o (λ b. xs ≡ b) → IfSome o (λ b. ys ≡ b) → xs ≡ ys
 same_text None xs ys n h k = absurd (n refl)
 same_text (Some b) xs ys n h k = h ∙ sym k
 
-not_long : (o : Option (List ℕ)) (xs : List ℕ) (most : ℕ) → (o ≡ None → ⊥) → length xs ≤ most → IfSome o (λ b. xs ≡ b) → IfSome o (λ b. most < length b) → ⊥
+pub not_long : (o : Option (List ℕ)) (xs : List ℕ) (most : ℕ) → (o ≡ None → ⊥) → length xs ≤ most → IfSome o (λ b. xs ≡ b) → IfSome o (λ b. most < length b) → ⊥
 not_long None xs most n short h long = n refl
 not_long (Some b) xs most n short h long = omega (arith, short, ap length h, long)
 
-ok_not_err : {A E : Type 0} {x : A} {e : E} → Ok x ≡ Err e → ⊥
+pub ok_not_err : {A E : Type 0} {x : A} {e : E} → Ok x ≡ Err e → ⊥
 ok_not_err h = absurd (cc)
 
 abbrev kept : {A : Type 0} → A → Result A NfgFault

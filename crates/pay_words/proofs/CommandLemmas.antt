@@ -1,23 +1,28 @@
 -- Commands, their beginnings, and the first word that doesn't fit.
-use Rattle.std.proofs.Common.{◌≡◌, ◌≢◌, ◌↔◌, ℕ, zero, suc, ◌+◌, ◌<◌, ◌≤◌, ◌++◌, List, [], ◌∷◌, length, get_or, take, drop, Option, Some, None, refl, sym, ap, subst, ◌∙◌, arith, ⊎_elim, inl, inr, append_assoc}
-use Rattle.std.specs.Prelude.{All, Any, Contains, codes}
+use Rattle.std.proofs.Common.{◌≡◌, ◌≢◌, ◌↔◌, ℕ, zero, suc, ◌+◌, ◌-◌, ◌<◌, ◌≤◌, ◌++◌, List, [], ◌∷◌, length, get_or, take, drop, Option, Some, None, Result, Ok, Err, refl, sym, ap, subst, ◌∙◌, arith, ⊎_elim, inl, inr, append_assoc}
+use Rattle.std.specs.Prelude.{All, Any, Contains, IfErr, IfOk, IsErrAnd, IsOkAnd, IsTrue, codes}
 use Rattle.std.proofs.lemmas.Bool.{cases_lt}
-use Rattle.std.proofs.lemmas.List.{append-nil, take-append-drop}
+use Rattle.std.proofs.lemmas.List.{append-nil, append_cancel_left, length-append, length-take-le, take-append-drop}
+use Rattle.std.proofs.Math.Seq.{drop-append_seam, take-append-add, take-length}
 use Rattle.std.specs.List.Sorted.{IsPermutation}
 use Rattle.pay_frac.specs.Ratio.{Ratio}
-use Rattle.pay_words.specs.Command.{IsBeginning, IsCommand, IsMisfit, IsSolve, Request, solving}
-use Rattle.pay_words.specs.Options.{AreOptions, AreSettings, Holds, IsDiscount, IsFirstWrong, IsSetting, name_in, name_of, usual_settings}
+use Rattle.pay_words.specs.Command.{IsBeginning, IsCall, IsCommand, IsMisfit, Request, solving, checking, file_count, files_in, request_of, word_of}
+use Rattle.pay_words.specs.Options.{AreOptions, AreSettings, Holds, IsDiscount, IsFirstWrong, IsSetting, name_in, name_of, takes, usual_settings}
+use Rattle.pay_words.specs.declared.command.Command.{Command}
+use Rattle.pay_words.specs.declared.command.UsageFault.{UsageFault}
 use Rattle.pay_words.specs.declared.options.Setting.{Setting}
 use Rattle.pay_words.specs.declared.options.Setting.TheVariants.{Discount, Directions, Workers, Budget, Grid, Slack, Inner}
 use Rattle.pay_words.specs.declared.options.Settings.{Settings}
+use Rattle.pay_words.specs.declared.options.Verb.{Verb}
+use Rattle.pay_words.specs.declared.options.Verb.TheVariants.{Solve, Check}
 use Rattle.pay_words.proofs.OptionLemmas.{apart, fewer_options, holds_one, named, named_or_not, no_options, no_settings, options_in_order, same_rest, settings_in_order}
 
 -- ---- words give one list of settings
-agree : (words : List (List ℕ)) (a b : Settings) → AreOptions words → AreSettings words a → AreSettings words b → (s : Setting) → Holds a s → Holds b s
-agree words a b o g h s k =
+agree : (verb : Verb) (words : List (List ℕ)) (a b : Settings) → AreOptions verb words → AreSettings words a → AreSettings words b → (s : Setting) → Holds a s → Holds b s
+agree verb words a b o g h s k =
     ⊎_elim
     (λ (n : Any (λ w. name_in w ≡ name_of s) words).
-    let t : (x : Setting) × IsSetting n.1 x = subst (λ w. (x : Setting) × IsSetting w x) n.3 (o.each n.0 n.1 n.2) in
+    let t : (x : Setting) × IsSetting n.1 x × IsTrue (takes verb x) = subst (λ w. (x : Setting) × IsSetting w x × IsTrue (takes verb x)) n.3 (o.each n.0 n.1 n.2) in
     let any : Any (λ w. IsSetting w t.0) words = (n.0, n.1, n.2, n.3, t.1) in
     let same : s ≡ t.0 = holds_one a s t.0 (sym n.4 ∙ named n.1 t.0 t.1) k (g.given t.0 any) in
     subst (Holds b) (sym same) (h.given t.0 any))
@@ -40,37 +45,96 @@ same_parts a b f g = λ i. record {
   inner = same_option a.inner b.inner (λ n. f (Inner n)) (λ n. g (Inner n)) i;
 }
 
-same_settings : (words : List (List ℕ)) (a b : Settings) → AreOptions words → AreSettings words a → AreSettings words b → a ≡ b
-same_settings words a b o g h = same_parts a b (agree words a b o g h) (agree words b a o h g)
+same_settings : (verb : Verb) (words : List (List ℕ)) (a b : Settings) → AreOptions verb words → AreSettings words a → AreSettings words b → a ≡ b
+same_settings verb words a b o g h = same_parts a b (agree verb words a b o g h) (agree verb words b a o h g)
+
+same_call : (verb : Verb) (words files : List (List ℕ)) (s t : Settings) → IsCall verb words files s → IsCall verb words files t → s ≡ t
+same_call verb words files s t h k =
+    let e : word_of verb ∷ (files ++ h.options) ≡ word_of verb ∷ (files ++ k.options) = sym h.shape ∙ k.shape in
+    let tails : files ++ h.options ≡ files ++ k.options = cc in
+    let options : h.options ≡ k.options = append_cancel_left files h.options k.options tails in
+    same_settings verb k.options s t k.right (subst (λ xs. AreSettings xs s) options h.settings) k.settings
+
+-- ---- the command, the files and the settings of a request
+abbrev verb_in : Request → Verb
+verb_in (solving f s) = Solve
+verb_in (checking f g d) = Check
+
+abbrev files_of : Request → List (List ℕ)
+files_of (solving f s) = f ∷ []
+files_of (checking f g d) = f ∷ g ∷ []
+
+counted : (r : Request) → length (files_of r) ≡ file_count (verb_in r)
+counted (solving f s) = refl
+counted (checking f g d) = refl
+
+call_of : (words : List (List ℕ)) (r : Request) → IsCommand words r → (set : Settings) × IsCall (verb_in r) words (files_of r) set
+call_of words (solving f s) h = (s, h)
+call_of words (checking f g d) h = (h.0, h.1)
+
+requested : (verb : Verb) (words files : List (List ℕ)) (set : Settings) → length files ≡ file_count verb → IsCall verb words files set → (r : Request) × IsCommand words r
+requested Solve words [] set l h = absurd (omega arith)
+requested Solve words (f ∷ []) set l h = (solving f set, h)
+requested Solve words (f ∷ g ∷ fs) set l h = absurd (omega arith)
+requested Check words [] set l h = absurd (omega arith)
+requested Check words (f ∷ []) set l h = absurd (omega arith)
+requested Check words (f ∷ g ∷ []) set l h = (checking f g set.discount, (set, h, refl))
+requested Check words (f ∷ g ∷ e ∷ fs) set l h = absurd (omega arith)
+
+same_verb : (v w : Verb) → word_of v ≡ word_of w → v ≡ w
+same_verb Solve Solve e = refl
+same_verb Check Check e = refl
+same_verb v w e = absurd (apart (word_of v) (word_of w) refl e)
+
+first_is : (words : List (List ℕ)) (r : Request) → IsCommand words r → get_or words 0 [] ≡ word_of (verb_in r)
+first_is words r h = ap (λ xs. get_or xs 0 []) (call_of words r h).1.shape
+
+verb_is : (verb : Verb) (words : List (List ℕ)) (r : Request) → get_or words 0 [] ≡ word_of verb → IsCommand words r → verb ≡ verb_in r
+verb_is verb words r e h = same_verb verb (verb_in r) (sym e ∙ first_is words r h)
+
+long_enough : (words : List (List ℕ)) (r : Request) → IsCommand words r → file_count (verb_in r) < length words
+long_enough words r h =
+    let c = (call_of words r h).1 in
+    omega (arith, ap length c.shape, length-append (files_of r) c.options, counted r)
 
 pub one_request : (words : List (List ℕ)) (a b : Request) → IsCommand words a → IsCommand words b → a ≡ b
 one_request words (solving f s) (solving g t) h k =
     let e : codes "solve" ∷ f ∷ h.options ≡ codes "solve" ∷ g ∷ k.options = sym h.shape ∙ k.shape in
     let file : f ≡ g = cc in
-    let options : h.options ≡ k.options = cc in
-    ap (λ x. solving x s) file ∙ ap (solving g) (same_settings k.options s t k.right (subst (λ xs. AreSettings xs s) options h.settings) k.settings)
+    ap (λ x. solving x s) file ∙ ap (solving g) (same_call Solve words (g ∷ []) s t (subst (λ x. IsCall Solve words (x ∷ []) s) file h) k)
+one_request words (checking f a d) (checking g b e) h k =
+    let i : codes "check" ∷ f ∷ a ∷ h.1.options ≡ codes "check" ∷ g ∷ b ∷ k.1.options = sym h.1.shape ∙ k.1.shape in
+    let file : f ≡ g = cc in
+    let other : a ≡ b = cc in
+    let call : IsCall Check words (g ∷ b ∷ []) h.0 = subst (λ x. IsCall Check words (g ∷ x ∷ []) h.0) other (subst (λ x. IsCall Check words (x ∷ a ∷ []) h.0) file h.1) in
+    let set : h.0 ≡ k.0 = same_call Check words (g ∷ b ∷ []) h.0 k.0 call k.1 in
+    ap (λ x. checking x a d) file ∙ ap (λ x. checking g x d) other ∙ ap (checking g b) (sym h.2 ∙ ap (λ s. s.discount) set ∙ k.2)
+one_request words a b h k = absurd (apart (word_of (verb_in a)) (word_of (verb_in b)) refl (sym (first_is words a h) ∙ first_is words b k))
 
 -- ---- beginnings
+begin_call : (verb : Verb) (words rest files options : List (List ℕ)) (set : Settings) → words ++ rest ≡ word_of verb ∷ files ++ options → length files ≡ file_count verb
+    → AreOptions verb options → AreSettings options set → IsBeginning words
+begin_call verb words rest files options set e l h k =
+    let r = requested verb (words ++ rest) files set l (record { options = options; shape = e; right = h; settings = k }) in
+    record { rest = rest; request = r.0; command = r.1 }
+
 begin_none : IsBeginning []
-begin_none = record {
-  rest = codes "solve" ∷ [] ∷ [];
-  request = solving [] usual_settings;
-  command = record { options = []; shape = refl; right = no_options; settings = no_settings };
-}
+begin_none = begin_call Solve [] (codes "solve" ∷ [] ∷ []) ([] ∷ []) [] usual_settings refl refl (no_options Solve) no_settings
 
-begin_solve : IsBeginning (codes "solve" ∷ [])
-begin_solve = record {
-  rest = [] ∷ [];
-  request = solving [] usual_settings;
-  command = record { options = []; shape = refl; right = no_options; settings = no_settings };
-}
+abbrev empty_names : ℕ → List (List ℕ)
+empty_names zero = []
+empty_names (suc n) = [] ∷ empty_names n
 
-begin_more : (file : List ℕ) (options : List (List ℕ)) (set : Settings) → AreOptions options → AreSettings options set → IsBeginning (codes "solve" ∷ file ∷ options)
-begin_more file options set h k = record {
-  rest = [];
-  request = solving file set;
-  command = record { options = options; shape = append-nil (codes "solve" ∷ file ∷ options); right = h; settings = k };
-}
+length-empty_names : (n : ℕ) → length (empty_names n) ≡ n
+length-empty_names zero = refl
+length-empty_names (suc n) = ap suc (length-empty_names n)
+
+begin_short : (verb : Verb) (files : List (List ℕ)) → length files ≤ file_count verb → IsBeginning (word_of verb ∷ files)
+begin_short verb files l =
+    let n = file_count verb - length files in
+    begin_call verb (word_of verb ∷ files) (empty_names n) (files ++ empty_names n) [] usual_settings
+    (ap (λ xs. word_of verb ∷ xs) (sym (append-nil (files ++ empty_names n))))
+    (omega (arith, length-append files (empty_names n), length-empty_names n)) (no_options verb) no_settings
 
 shorter : (xs ys : List (List ℕ)) → IsBeginning (xs ++ ys) → IsBeginning xs
 shorter xs ys b = record { rest = ys ++ b.rest; request = b.request; command = subst (λ zs. IsCommand zs b.request) (append_assoc xs ys b.rest) b.command }
@@ -115,48 +179,101 @@ one_misfit words i j m n =
     (λ (g : j ≤ i). ⊎_elim (λ (l : j < i). absurd (none_earlier words j i n m l)) (λ (h : i ≤ j). omega arith) (cases_lt j i))
     (cases_lt i j)
 
-first_is : (words : List (List ℕ)) (r : Request) → IsCommand words r → get_or words 0 [] ≡ codes "solve"
-first_is words (solving f s) h = ap (λ xs. get_or xs 0 []) h.shape
-
-at_least_two : (words : List (List ℕ)) (r : Request) → IsCommand words r → 2 ≤ length words
-at_least_two words (solving f s) h = omega (arith, ap length h.shape)
-
 pub no_words : IsMisfit [] 0
-no_words = record { before = begin_none; here = inr (refl, λ r h. omega (arith, at_least_two [] r h)) }
+no_words = record { before = begin_none; here = inr (refl, λ r h. omega (arith, long_enough [] r h)) }
 
-pub not_solve : (w : List ℕ) (ws : List (List ℕ)) → (w ≡ codes "solve" → ⊥) → IsMisfit (w ∷ ws) 0
-not_solve w ws n = record {
+pub no_verb : (w : List ℕ) (ws : List (List ℕ)) → ((v : Verb) → word_of v ≡ w → ⊥) → IsMisfit (w ∷ ws) 0
+no_verb w ws n = record {
   before = begin_none;
-  here = inl (omega arith, λ b. n (first_is (w ∷ b.rest) b.request b.command));
+  here = inl (omega arith, λ b. n (verb_in b.request) (sym (first_is (w ∷ b.rest) b.request b.command)));
 }
 
-pub command_alone : IsMisfit (codes "solve" ∷ []) 1
-command_alone = record { before = begin_solve; here = inr (refl, λ r h. omega (arith, at_least_two (codes "solve" ∷ []) r h)) }
-
-options_in : (file : List ℕ) (options rest : List (List ℕ)) (r : Request) → IsCommand (codes "solve" ∷ file ∷ options ++ rest) r → AreOptions (options ++ rest)
-options_in file options rest (solving f s) h =
-    let e : codes "solve" ∷ file ∷ (options ++ rest) ≡ codes "solve" ∷ f ∷ h.options = h.shape in
-    let same : options ++ rest ≡ h.options = cc in
-    subst AreOptions (sym same) h.right
-
-pub wrong_word : (file : List ℕ) (options : List (List ℕ)) (i : ℕ) → IsFirstWrong options i → IsMisfit (codes "solve" ∷ file ∷ options) (i + 2)
-wrong_word file options i h =
-    let words = codes "solve" ∷ file ∷ options in
-    let two : i + 2 ≡ suc (suc i) = omega arith in
-    let three : i + 2 + 1 ≡ suc (suc (i + 1)) = omega arith in
+-- a file is missing
+pub missing : (verb : Verb) (files : List (List ℕ)) → length files < file_count verb → IsMisfit (word_of verb ∷ files) (1 + length files)
+missing verb files l =
+    let words = word_of verb ∷ files in
+    let all : 1 + length files ≡ length words = omega arith in
     record {
-      before = subst (λ n. IsBeginning (take n words)) (sym two) (begin_more file (take i options) h.settings h.before h.given);
-      here = inl (
-        omega (arith, h.there),
-        λ b.
-            let c : IsBeginning (codes "solve" ∷ file ∷ take (i + 1) options) = subst (λ n. IsBeginning (take n words)) three b in
-            h.wrong (fewer_options (take (i + 1) options) c.rest (options_in file (take (i + 1) options) c.rest c.request c.command)),
+      before = subst IsBeginning (sym (ap (λ n. take n words) all ∙ take-length words)) (begin_short verb files (omega arith));
+      here = inr (
+        all,
+        λ r h.
+            let same : verb ≡ verb_in r = verb_is verb words r refl h in
+            omega (arith, long_enough words r h, ap file_count same),
       );
     }
 
-pub solve_of : (words : List (List ℕ)) (second file : List ℕ) (options : List (List ℕ)) (set : Settings) → words ≡ codes "solve" ∷ second ∷ options → second ≡ file
-    → AreOptions options → AreSettings options set → IsCommand words (solving file set)
-solve_of words second file options set e f h k = record { options = options; shape = e ∙ ap (λ x. codes "solve" ∷ x ∷ options) f; right = h; settings = k }
+options_in : (verb : Verb) (words files options : List (List ℕ)) (r : Request) → words ≡ word_of verb ∷ files ++ options → length files ≡ file_count verb → IsCommand words r
+    → AreOptions verb options
+options_in verb words files options r e l h =
+    let c = call_of words r h in
+    let same : verb ≡ verb_in r = verb_is verb words r (ap (λ xs. get_or xs 0 []) e) h in
+    let long : length files ≡ length (files_of r) = omega (arith, l, counted r, ap file_count same) in
+    let tails : files ++ options ≡ files_of r ++ c.1.options = ap (drop 1) (sym e ∙ c.1.shape) in
+    let options_same : options ≡ c.1.options =
+    sym (drop-append_seam files options) ∙ ap (drop (length files)) tails ∙ ap (λ n. drop n (files_of r ++ c.1.options)) long ∙ drop-append_seam (files_of r) c.1.options in
+    subst (AreOptions verb) (sym options_same) (subst (λ v. AreOptions v c.1.options) (sym same) c.1.right)
+
+-- a word after the files is wrong
+pub wrong_word : (verb : Verb) (files options : List (List ℕ)) (i : ℕ) → length files ≡ file_count verb → IsFirstWrong verb options i
+    → IsMisfit (word_of verb ∷ files ++ options) (1 + file_count verb + i)
+wrong_word verb files options i l h =
+    let words = word_of verb ∷ files ++ options in
+    let here : 1 + file_count verb + i ≡ suc (length files + i) = omega arith in
+    let next : 1 + file_count verb + i + 1 ≡ suc (length files + (i + 1)) = omega arith in
+    let first : take (1 + file_count verb + i) words ≡ word_of verb ∷ files ++ take i options =
+    ap (λ n. take n words) here ∙ ap (λ xs. word_of verb ∷ xs) (take-append-add files options i) in
+    let more : take (1 + file_count verb + i + 1) words ≡ word_of verb ∷ files ++ take (i + 1) options =
+    ap (λ n. take n words) next ∙ ap (λ xs. word_of verb ∷ xs) (take-append-add files options (i + 1)) in
+    record {
+      before = subst IsBeginning (sym first)
+          (begin_call verb (word_of verb ∷ files ++ take i options) [] files (take i options) h.settings (append-nil (word_of verb ∷ files ++ take i options)) l h.before h.given);
+      here = inl (
+        omega (arith, h.there, length-append files options),
+        λ b.
+            let c : IsBeginning (word_of verb ∷ files ++ take (i + 1) options) = subst IsBeginning more b in
+            h.wrong (fewer_options verb (take (i + 1) options) c.rest
+            (options_in verb ((word_of verb ∷ files ++ take (i + 1) options) ++ c.rest) files (take (i + 1) options ++ c.rest) c.request
+            (append_assoc (word_of verb ∷ files) (take (i + 1) options) c.rest) l c.command)),
+      );
+    }
+
+-- ---- the words by their places
+parts : (verb : Verb) (words : List (List ℕ)) → take 1 words ≡ word_of verb ∷ [] → words ≡ word_of verb ∷ files_in verb words ++ drop (1 + file_count verb) words
+parts verb [] e = absurd (cc)
+parts verb (w ∷ ws) e =
+    let first : w ≡ word_of verb = cc in
+    let one : 1 + file_count verb ≡ suc (file_count verb) = omega arith in
+    ap (λ x. x ∷ ws) first
+    ∙ ap (λ xs. word_of verb ∷ xs) (sym (take-append-drop (file_count verb) ws))
+    ∙ ap (λ n. word_of verb ∷ take (file_count verb) ws ++ drop n (w ∷ ws)) (sym one)
+
+files_counted : (verb : Verb) (words : List (List ℕ)) → file_count verb < length words → length (files_in verb words) ≡ file_count verb
+files_counted verb [] l = absurd (omega arith)
+files_counted verb (w ∷ ws) l = length-take-le (file_count verb) ws (omega arith)
+
+pub call_is : (verb : Verb) (words options : List (List ℕ)) (set : Settings) → take 1 words ≡ word_of verb ∷ [] → options ≡ drop (1 + file_count verb) words
+    → AreOptions verb options → AreSettings options set → IsCall verb words (files_in verb words) set
+call_is verb words options set e o h k = record {
+  options = options;
+  shape = parts verb words e ∙ ap (λ xs. word_of verb ∷ files_in verb words ++ xs) (sym o);
+  right = h;
+  settings = k;
+}
+
+pub too_short : (verb : Verb) (words : List (List ℕ)) → take 1 words ≡ word_of verb ∷ [] → length words < 1 + file_count verb → IsMisfit words (length words)
+too_short verb [] e l = absurd (cc)
+too_short verb (w ∷ ws) e l =
+    let first : word_of verb ≡ w = cc in
+    let long : 1 + length ws ≡ suc (length ws) = omega arith in
+    subst (λ x. IsMisfit (x ∷ ws) (suc (length ws))) first (subst (IsMisfit (word_of verb ∷ ws)) long (missing verb ws (omega arith)))
+
+pub misplaced : (verb : Verb) (words options : List (List ℕ)) (i : ℕ) → take 1 words ≡ word_of verb ∷ [] → file_count verb < length words → options ≡ drop (1 + file_count verb) words
+    → IsFirstWrong verb options i → IsMisfit words (1 + file_count verb + i)
+misplaced verb words options i e l o h =
+    subst (λ xs. IsMisfit xs (1 + file_count verb + i))
+    (sym (parts verb words e ∙ ap (λ xs. word_of verb ∷ files_in verb words ++ xs) (sym o)))
+    (wrong_word verb (files_in verb words) options i (files_counted verb words l) h)
 
 -- ---- what the words are decides each clause
 pub settled : (words : List (List ℕ)) (q : Request) → IsCommand words q → ((r : Request) → IsCommand words r ↔ (q ≡ r)) × ((i : ℕ) → IsMisfit words i ↔ ⊥)
@@ -165,9 +282,21 @@ settled words q h = (λ r. (λ k. one_request words q r h k, λ e. subst (IsComm
 pub refused : (words : List (List ℕ)) (k : ℕ) → IsMisfit words k → ((r : Request) → IsCommand words r ↔ ⊥) × ((i : ℕ) → IsMisfit words i ↔ (k ≡ i))
 refused words k m = (λ r. (λ h. no_misfit words r k h m, λ e. absurd e), λ i. (λ n. one_misfit words k i m n, λ e. subst (IsMisfit words) e m))
 
+pub answered : (words : List (List ℕ)) (r : Result Command UsageFault) → IfOk r (λ c. IsCommand words (request_of c)) → IfErr r (λ f. IsMisfit words f.index)
+    → ((q : Request) → IsCommand words q ↔ IsOkAnd r (λ c. request_of c ≡ q)) × ((i : ℕ) → IsMisfit words i ↔ IsErrAnd r (λ f. f.index ≡ i))
+answered words (Ok c) h m = settled words (request_of c) h
+answered words (Err f) h m = refused words f.index m
+
 -- ---- rows
-pub file_alone : (file : List ℕ) → IsSolve (codes "solve" ∷ file ∷ []) file usual_settings
-file_alone file = record { options = []; shape = refl; right = no_options; settings = no_settings }
+pub command_alone : (verb : Verb) → IsMisfit (word_of verb ∷ []) 1
+command_alone Solve = missing Solve [] (omega arith)
+command_alone Check = missing Check [] (omega arith)
+
+pub check_one_file : (file : List ℕ) → IsMisfit (codes "check" ∷ file ∷ []) 2
+check_one_file file = missing Check (file ∷ []) (omega arith)
+
+pub files_alone : (verb : Verb) (files : List (List ℕ)) → IsCall verb (word_of verb ∷ files) files usual_settings
+files_alone verb files = record { options = []; shape = ap (λ xs. word_of verb ∷ xs) (sym (append-nil files)); right = no_options verb; settings = no_settings }
 
 -- a setting named `discount` is a discount
 discount_of : (s : Setting) (w text : List ℕ) → w ≡ codes "discount=" ++ text → IsSetting w s → (d : Ratio) × (s ≡ Discount d) × IsDiscount text d
@@ -176,18 +305,24 @@ discount_of (Discount d) w text e h =
     (d, refl, subst (λ x. IsDiscount x d) same h.value)
 discount_of s w text e h = absurd (apart (name_of s) (codes "discount") refl (sym (named w s h) ∙ ap name_in e))
 
-pub discount_given : (words : List (List ℕ)) (file : List ℕ) (set : Settings) (text : List ℕ) → IsSolve words file set → Contains (drop 2 words) (codes "discount=" ++ text) → IsDiscount text set.discount
-discount_given words file set text h k =
-    let c : Contains h.options (codes "discount=" ++ text) = subst (λ xs. Contains (drop 2 xs) (codes "discount=" ++ text)) h.shape k in
-    let t : (x : Setting) × IsSetting (codes "discount=" ++ text) x = subst (λ w. (x : Setting) × IsSetting w x) c.2 (h.right.each c.0 (codes "discount=" ++ text) c.1) in
+pub discount_given : (verb : Verb) (words files : List (List ℕ)) (set : Settings) (text : List ℕ) → IsCall verb words files set → Contains (drop (1 + length files) words) (codes "discount=" ++ text)
+    → IsDiscount text set.discount
+discount_given verb words files set text h k =
+    let one : 1 + length files ≡ suc (length files) = omega arith in
+    let behind : drop (1 + length files) words ≡ h.options = ap (λ n. drop n words) one ∙ ap (drop (suc (length files))) h.shape ∙ drop-append_seam files h.options in
+    let c : Contains h.options (codes "discount=" ++ text) = subst (λ xs. Contains xs (codes "discount=" ++ text)) behind k in
+    let t : (x : Setting) × IsSetting (codes "discount=" ++ text) x × IsTrue (takes verb x) =
+    subst (λ w. (x : Setting) × IsSetting w x × IsTrue (takes verb x)) c.2 (h.right.each c.0 (codes "discount=" ++ text) c.1) in
     let d = discount_of t.0 (codes "discount=" ++ text) text refl t.1 in
     let held : Holds set t.0 = h.settings.given t.0 (c.0, codes "discount=" ++ text, c.1, c.2, t.1) in
     let same : set.discount ≡ d.0 = subst (Holds set) d.1 held in
     subst (IsDiscount text) (sym same) d.2
 
-pub any_order : (file : List ℕ) (set : Settings) (xs ys : List (List ℕ)) → IsPermutation xs ys → IsSolve (codes "solve" ∷ file ∷ xs) file set → IsSolve (codes "solve" ∷ file ∷ ys) file set
-any_order file set xs ys p h =
-    let options : xs ≡ h.options = (let e = h.shape in cc) in
-    let right : AreOptions xs = subst AreOptions (sym options) h.right in
+pub any_order : (verb : Verb) (files : List (List ℕ)) (set : Settings) (xs ys : List (List ℕ)) → IsPermutation xs ys → IsCall verb (word_of verb ∷ files ++ xs) files set
+    → IsCall verb (word_of verb ∷ files ++ ys) files set
+any_order verb files set xs ys p h =
+    let tails : files ++ xs ≡ files ++ h.options = ap (drop 1) h.shape in
+    let options : xs ≡ h.options = append_cancel_left files xs h.options tails in
+    let right : AreOptions verb xs = subst (AreOptions verb) (sym options) h.right in
     let settings : AreSettings xs set = subst (λ zs. AreSettings zs set) (sym options) h.settings in
-    record { options = ys; shape = refl; right = options_in_order xs ys p right; settings = settings_in_order xs ys set p settings }
+    record { options = ys; shape = refl; right = options_in_order verb xs ys p right; settings = settings_in_order xs ys set p settings }

@@ -1,6 +1,6 @@
 -- What a word spells, and what words set.
 use Rattle.std.proofs.Common.{◌≡◌, ◌≢◌, ◌⊎◌, ◌↔◌, ℕ, zero, suc, ◌<◌, ◌≤◌, ◌++◌, ◌*ℤ◌, Bool, true, false, not, List, [], ◌∷◌, length, get_or, Option, Some, None, Result, Ok, Err, Bor, lit<, refl, sym, ap, subst, ◌∙◌, arith, ⊎_elim, inl, inr}
-use Rattle.std.specs.Prelude.{map, All, AllPairs, Any, IfSome, IsOkAnd}
+use Rattle.std.specs.Prelude.{map, All, AllPairs, Any, IfSome, IsOkAnd, IsTrue}
 use Rattle.std.specs.Str.{bytes_eq}
 use Rattle.std.proofs.lemmas.Bool.{cases_Bool, cases_lt}
 use Rattle.std.proofs.lemmas.Bool.Decides.{not_from_Decides}
@@ -22,7 +22,8 @@ use Rattle.pay_frac.proofs.Laws.{one_spelling, same_number, spelled_positive}
 use Rattle.pay_words.specs.declared.options.Setting.{Setting}
 use Rattle.pay_words.specs.declared.options.Setting.TheVariants.{Discount, Directions, Workers, Budget, Grid, Slack, Inner}
 use Rattle.pay_words.specs.declared.options.Settings.{Settings}
-use Rattle.pay_words.specs.Options.{AreOptions, AreSettings, AreWithinLimits, Holds, IsDiscount, IsSetting, IsValue, name_in, name_of, usual_settings, with_setting}
+use Rattle.pay_words.specs.declared.options.Verb.{Verb}
+use Rattle.pay_words.specs.Options.{AreOptions, AreSettings, AreWithinLimits, Holds, IsDiscount, IsSetting, IsValue, name_in, name_of, takes, usual_settings, with_setting}
 
 -- ---- names
 pub apart : (a b : List ℕ) → bytes_eq a b ≡ false → a ≡ b → ⊥
@@ -136,19 +137,20 @@ holds_one set s t n h k = absurd (apart (name_of s) (name_of t) refl n)
 pub at_end : (xs : List (List ℕ)) (w d : List ℕ) → get_or (xs ++ w ∷ []) (length xs) d ≡ w
 at_end xs w d = get_or-append_seam xs w [] d
 
-pub no_options : AreOptions []
-no_options = record { each = λ k d l. absurd (omega arith); once = λ i j d l m. absurd (omega arith) }
+pub no_options : (verb : Verb) → AreOptions verb []
+no_options verb = record { each = λ k d l. absurd (omega arith); once = λ i j d l m. absurd (omega arith) }
 
 pub no_settings : AreSettings [] usual_settings
 no_settings = record { given = λ s a. absurd (let l : a.0 < 0 = a.2 in omega arith); usual = λ s a. (λ h. h, λ h. h) }
 
-pub more_options : (words : List (List ℕ)) (w : List ℕ) (s : Setting) → AreOptions words → IsSetting w s → All (λ v. name_in v ≢ name_of s) words → AreOptions (words ++ w ∷ [])
-more_options words w s h k new = record {
+pub more_options : (verb : Verb) (words : List (List ℕ)) (w : List ℕ) (s : Setting) → AreOptions verb words → IsSetting w s → IsTrue (takes verb s) → All (λ v. name_in v ≢ name_of s) words
+    → AreOptions verb (words ++ w ∷ [])
+more_options verb words w s h k taken new = record {
   each = λ i d l. ⊎_elim
-      (λ (m : i < length words). subst (λ v. (t : Setting) × IsSetting v t) (sym (get_or_append_left words (w ∷ []) d i m)) (h.each i d m))
+      (λ (m : i < length words). subst (λ v. (t : Setting) × IsSetting v t × IsTrue (takes verb t)) (sym (get_or_append_left words (w ∷ []) d i m)) (h.each i d m))
       (λ (m : length words ≤ i).
       let e : length words ≡ i = omega (arith, length-append words (w ∷ [])) in
-      subst (λ v. (t : Setting) × IsSetting v t) (sym (at_end words w d) ∙ ap (λ n. get_or (words ++ w ∷ []) n d) e) (s, k))
+      subst (λ v. (t : Setting) × IsSetting v t × IsTrue (takes verb t)) (sym (at_end words w d) ∙ ap (λ n. get_or (words ++ w ∷ []) n d) e) (s, k, taken))
       (cases_lt i (length words));
   once = all_pairs_push (λ v x. name_in v ≢ name_in x) words w h.once (λ i d l e. new i d l (e ∙ named w s k));
 }
@@ -186,20 +188,20 @@ more_settings words w set s h k new = record {
 }
 
 -- ---- the first words of options are options
-pub fewer_options : (xs ys : List (List ℕ)) → AreOptions (xs ++ ys) → AreOptions xs
-fewer_options xs ys h = record {
-  each = λ i d l. subst (λ v. (t : Setting) × IsSetting v t) (get_or_append_left xs ys d i l) (h.each i d (omega (arith, length-append xs ys)));
+pub fewer_options : (verb : Verb) (xs ys : List (List ℕ)) → AreOptions verb (xs ++ ys) → AreOptions verb xs
+fewer_options verb xs ys h = record {
+  each = λ i d l. subst (λ v. (t : Setting) × IsSetting v t × IsTrue (takes verb t)) (get_or_append_left xs ys d i l) (h.each i d (omega (arith, length-append xs ys)));
   once = λ i j d l m e. h.once i j d l (omega (arith, length-append xs ys))
       (ap name_in (get_or_append_left xs ys d i (omega arith)) ∙ e ∙ sym (ap name_in (get_or_append_left xs ys d j m)));
 }
 
--- a word that spells nothing new
-pub wrong_option : (words : List (List ℕ)) (w : List ℕ) → ((s : Setting) → IsSetting w s → Any (λ v. name_in v ≡ name_of s) words) → AreOptions (words ++ w ∷ []) → ⊥
-wrong_option words w none h =
+-- a word that spells nothing new for the command
+pub wrong_option : (verb : Verb) (words : List (List ℕ)) (w : List ℕ) → ((s : Setting) → IsSetting w s → IsTrue (takes verb s) → Any (λ v. name_in v ≡ name_of s) words) → AreOptions verb (words ++ w ∷ []) → ⊥
+wrong_option verb words w none h =
     let l : length words < length (words ++ w ∷ []) = omega (arith, length-append words (w ∷ [])) in
     let here = h.each (length words) [] l in
     let k : IsSetting w here.0 = subst (λ v. IsSetting v here.0) (at_end words w []) here.1 in
-    let a = none here.0 k in
+    let a = none here.0 k here.2 in
     h.once a.0 (length words) a.1 a.2 l
     (ap name_in (get_or_append_left words (w ∷ []) a.1 a.0 a.2 ∙ a.3) ∙ a.4 ∙ sym (named w here.0 k) ∙ sym (ap name_in (at_end words w a.1)))
 
@@ -244,8 +246,8 @@ flips x y =
     (cases_Bool (bytes_eq y x)))
     (cases_Bool (bytes_eq x y))
 
-pub options_in_order : (xs ys : List (List ℕ)) → IsPermutation xs ys → AreOptions xs → AreOptions ys
-options_in_order xs ys p h =
+pub options_in_order : (verb : Verb) (xs ys : List (List ℕ)) → IsPermutation xs ys → AreOptions verb xs → AreOptions verb ys
+options_in_order verb xs ys p h =
     let names : AllPairs (λ x y. x ≢ y) (map name_in xs) =
     λ i j d l m e.
     let k : j < length xs = omega (arith, length-map xs name_in) in
@@ -254,7 +256,7 @@ options_in_order xs ys p h =
     AllPairs-from_IsDistinct bytes_eq-Decides (map name_in ys)
     (IsDistinct-IsPermutation bytes_eq flips (map name_in xs) (map name_in ys) (IsPermutation-map name_in xs ys p) (IsDistinct-from_AllPairs bytes_eq-Decides (map name_in xs) names)) in
     record {
-      each = All-permutation (λ w. (s : Setting) × IsSetting w s) xs ys p h.each;
+      each = All-permutation (λ w. (s : Setting) × IsSetting w s × IsTrue (takes verb s)) xs ys p h.each;
       once = λ i j d l m e. moved i j [] l (omega (arith, length-map ys name_in))
           (get_or-map name_in ys i d [] (omega arith) ∙ e ∙ sym (get_or-map name_in ys j d [] m));
     }

@@ -1,36 +1,57 @@
 -- The words of the command line: a command, its files, and its settings.
-use Rattle.std.specs.Prelude.{◌≡◌, ◌⊎◌, ℕ, ◌+◌, ◌<◌, ◌++◌, List, ◌∷◌, length, map, take, codes, String, string_bytes}
+use Rattle.std.specs.Prelude.{◌≡◌, ◌⊎◌, ℕ, ◌+◌, ◌<◌, ◌++◌, List, [], ◌∷◌, length, map, take, drop, codes, String, string_bytes}
 use Rattle.std.specs.declared.alloc.Global.{Global}
-use Rattle.pay_words.specs.Options.{AreOptions, AreSettings, AreWithinLimits}
+use Rattle.pay_frac.specs.Ratio.{Ratio}
+use Rattle.pay_words.specs.Options.{AreOptions, AreSettings, AreWithinLimits, IsProper}
 use Rattle.pay_words.specs.declared.command.Command.{Command}
-use Rattle.pay_words.specs.declared.command.Command.TheVariants.{Solve}
+use Rattle.pay_words.specs.declared.command.Command.TheVariants.{Solve as SolveCommand, Check as CheckCommand}
 use Rattle.pay_words.specs.declared.options.Settings.{Settings}
+use Rattle.pay_words.specs.declared.options.Verb.{Verb}
+use Rattle.pay_words.specs.declared.options.Verb.TheVariants.{Solve, Check}
 
 -- the bytes of each word
 abbrev pub words_in : List (String Global) → List (List ℕ)
 words_in words = map string_bytes words
 
--- The words are `solve`, the name of a file, and settings of different names.
-pub record IsSolve (words : List (List ℕ)) (file : List ℕ) (set : Settings) : Type 0 where
+-- the word of a command
+abbrev pub word_of : Verb → List ℕ
+word_of Solve = codes "solve"
+word_of Check = codes "check"
+
+-- how many files a command names
+abbrev pub file_count : Verb → ℕ
+file_count Solve = 1
+file_count Check = 2
+
+-- the files among a command's words
+abbrev pub files_in : Verb → List (List ℕ) → List (List ℕ)
+files_in verb words = take (file_count verb) (drop 1 words)
+
+-- The words are a command, the names of these files, and settings of different names that the command takes.
+pub record IsCall (verb : Verb) (words files : List (List ℕ)) (set : Settings) : Type 0 where
   pub options : List (List ℕ)
-  pub shape : words ≡ codes "solve" ∷ file ∷ options
-  pub right : AreOptions options
+  pub shape : words ≡ word_of verb ∷ files ++ options
+  pub right : AreOptions verb options
   pub settings : AreSettings options set
 
 -- what a command asks for: the bytes of its files' names, and its settings
 pub data Request : Type 0 where
   solving : List ℕ → Settings → Request
+  checking : List ℕ → List ℕ → Ratio → Request
 
 -- the words are a command that asks for this
 abbrev pub IsCommand : List (List ℕ) → Request → Type 0
-IsCommand words (solving file set) = IsSolve words file set
+IsCommand words (solving file set) = IsCall Solve words (file ∷ []) set
+IsCommand words (checking file corr discount) = (set : Settings) × IsCall Check words (file ∷ corr ∷ []) set × (set.discount ≡ discount)
 
 abbrev pub request_of : Command → Request
-request_of (Solve file set) = solving file.now set
+request_of (SolveCommand file set) = solving file.now set
+request_of (CheckCommand file corr discount) = checking file.now corr.now discount
 
 -- the settings of a command lie within their limits
 abbrev pub HasLimits : Command → Type 0
-HasLimits (Solve file set) = AreWithinLimits set
+HasLimits (SolveCommand file set) = AreWithinLimits set
+HasLimits (CheckCommand file corr discount) = IsProper discount
 
 -- with some words behind them, these are a command
 pub record IsBeginning (words : List (List ℕ)) : Type 0 where

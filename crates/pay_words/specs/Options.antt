@@ -1,11 +1,13 @@
 -- The words `name=value`, and the settings that they give.
-use Rattle.std.specs.Prelude.{◌≡◌, ◌≢◌, ◌⊎◌, ◌↔◌, ℕ, ◌+◌, ◌<◌, ◌≤◌, ◌++◌, ◌==◌, List, ◌∷◌, length, take, codes, pos, ◌<ℤ◌, Some, None, IfSome, All, AllPairs, Any}
+use Rattle.std.specs.Prelude.{◌≡◌, ◌≢◌, ◌⊎◌, ◌↔◌, ℕ, ◌+◌, ◌<◌, ◌≤◌, ◌++◌, ◌==◌, List, ◌∷◌, length, take, codes, pos, ◌<ℤ◌, Some, None, Bool, true, false, IfSome, IsTrue, All, AllPairs, Any}
 use Rattle.std.specs.List.{before_first}
 use Rattle.pay_frac.specs.Ratio.{Ratio, IsLowest, Equals}
 use Rattle.pay_frac.specs.Spelling.{Spelling, Spells, SpellsWhole, digit_count, spelled_num, spelled_den}
 use Rattle.pay_words.specs.declared.options.Setting.{Setting}
 use Rattle.pay_words.specs.declared.options.Setting.TheVariants.{Discount, Directions, Workers, Budget, Grid, Slack, Inner}
 use Rattle.pay_words.specs.declared.options.Settings.{Settings}
+use Rattle.pay_words.specs.declared.options.Verb.{Verb}
+use Rattle.pay_words.specs.declared.options.Verb.TheVariants.{Solve, Check}
 use Rattle.pay_words.specs.declared.options.TheConstants.{MOST_WORKERS, MOST_INNER}
 
 -- the name of a setting
@@ -17,6 +19,18 @@ name_of (Budget n) = codes "budget"
 name_of (Grid n) = codes "grid"
 name_of (Slack n) = codes "slack"
 name_of (Inner n) = codes "inner"
+
+-- whether words of a command may have this setting
+abbrev pub takes : Verb → Setting → Bool
+takes Solve s = true
+takes Check (Discount d) = true
+takes Check s = false
+
+-- a fraction in lowest terms, above 0 and below 1
+pub record IsProper (d : Ratio) : Type 0 where
+  pub lowest : IsLowest d
+  pub above : pos 0 <ℤ d.num
+  pub below : d.num <ℤ d.den
 
 -- The text is a number of at most 36 digits, above 0 and below 1: this one, in lowest terms.
 pub record IsDiscount (text : List ℕ) (d : Ratio) : Type 0 where
@@ -59,9 +73,9 @@ pub record IsSetting (word : List ℕ) (s : Setting) : Type 0 where
 abbrev pub name_in : List ℕ → List ℕ
 name_in word = before_first (λ b. b == 61) word
 
--- Each word is a setting, and no two have the same name.
-pub record AreOptions (words : List (List ℕ)) : Type 0 where
-  pub each : All (λ w. (s : Setting) × IsSetting w s) words
+-- Each word is a setting that the command takes, and no two have the same name.
+pub record AreOptions (verb : Verb) (words : List (List ℕ)) : Type 0 where
+  pub each : All (λ w. (s : Setting) × IsSetting w s × IsTrue (takes verb s)) words
   pub once : AllPairs (λ v w. name_in v ≢ name_in w) words
 
 -- the settings where no word says otherwise
@@ -111,10 +125,10 @@ with_setting set (Grid n) = record set { grid = n }
 with_setting set (Slack n) = record set { slack = n }
 with_setting set (Inner n) = record set { inner = Some n }
 
--- Word i is the first that is no setting or has the name of an earlier one.
-pub record IsFirstWrong (words : List (List ℕ)) (i : ℕ) : Type 0 where
+-- Word i is the first that is no setting of the command or has the name of an earlier one.
+pub record IsFirstWrong (verb : Verb) (words : List (List ℕ)) (i : ℕ) : Type 0 where
   pub there : i < length words
-  pub before : AreOptions (take i words)
+  pub before : AreOptions verb (take i words)
   pub settings : Settings
   pub given : AreSettings (take i words) settings
-  pub wrong : AreOptions (take (i + 1) words) → ⊥
+  pub wrong : AreOptions verb (take (i + 1) words) → ⊥

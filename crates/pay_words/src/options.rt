@@ -1,7 +1,7 @@
 //! The words `name=value`.
 
 ghost use Rattle.pay_words.specs.Command.{words_in};
-ghost use Rattle.pay_words.specs.Options.{AreOptions, AreSettings, AreWithinLimits, Holds, IsDirections, IsDiscount, IsFirstWrong, IsSetting, IsValue, IsWithin, name_in, name_of, usual_settings, with_setting};
+ghost use Rattle.pay_words.specs.Options.{AreOptions, AreSettings, AreWithinLimits, Holds, IsDirections, IsDiscount, IsFirstWrong, IsSetting, IsValue, IsWithin, name_in, name_of, takes, usual_settings, with_setting};
 ghost use Rattle.pay_frac.specs.Ratio.{Ratio};
 ghost use Rattle.std.specs.Prelude.{◌+◌, ◌++◌, ◌<◌, ◌≤◌, ◌^◌, ◌↔◌, ◌≡◌, ◌≢◌, ◌∷◌, ℕ, All, Any, IfErr, IfNone, IfOk, IfSome, IsTrue, List, length};
 
@@ -21,6 +21,13 @@ const MOST_GRID: u32 = 30;
 
 /// The largest slack.
 const MOST_SLACK: u64 = 1_000_000_000;
+
+/// The commands, each of which has some of the settings.
+#[derive(Clone, Copy, Debug, PartialEq, Eq)]
+pub enum Verb {
+    Solve,
+    Check,
+}
 
 /// What a run is asked for.
 #[derive(Clone, Copy, Debug, PartialEq, Eq)]
@@ -51,6 +58,18 @@ pub enum Setting {
     Grid(u32),
     Slack(u64),
     Inner(u32),
+}
+
+impl Verb {
+    /// Whether words of this command may have this setting.
+    fn takes(self, setting: &Setting) -> bool
+        ensures { result ≡ takes self setting.now }
+    {
+        match self {
+            Verb::Solve => true,
+            Verb::Check => matches!(setting, Setting::Discount(_)),
+        }
+    }
 }
 
 impl Settings {
@@ -92,16 +111,17 @@ impl Settings {
     }
 }
 
-/// The settings that the words give, or the place of the first word that is no setting or repeats a name.
-pub fn settings_of(words: &[String]) -> Result<Settings, usize>
-    ensures options { IfOk result (λ _. AreOptions (words_in words.now)) }
+/// The settings that the words give a command, or the place of the first word that is no setting of it or repeats a
+/// name.
+pub fn settings_of(verb: Verb, words: &[String]) -> Result<Settings, usize>
+    ensures options { IfOk result (λ _. AreOptions verb (words_in words.now)) }
     ensures settings { IfOk result (AreSettings (words_in words.now)) }
     ensures limits { IfOk result AreWithinLimits }
-    ensures wrong { IfErr result (IsFirstWrong (words_in words.now)) }
+    ensures wrong { IfErr result (IsFirstWrong verb (words_in words.now)) }
 {
     let mut set = Settings::usual();
     for place in 0..words.len() {
-        match new_setting(&words[..place], &words[place]) {
+        match new_setting(verb, &words[..place], &words[place]) {
             Some(setting) => set = set.with(setting),
             None => return Err(place),
         }
@@ -109,14 +129,18 @@ pub fn settings_of(words: &[String]) -> Result<Settings, usize>
     Ok(set)
 }
 
-/// The setting that a word spells, where no earlier word has its name.
-fn new_setting(earlier: &[String], word: &str) -> Option<Setting>
+/// The setting that a word spells, where the command takes it and no earlier word has its name.
+fn new_setting(verb: Verb, earlier: &[String], word: &str) -> Option<Setting>
     ensures spelled { IfSome result (IsSetting word.now) }
+    ensures taken { IfSome result (λ s. IsTrue (takes verb s)) }
     ensures new { IfSome result (λ s. All (λ w. name_in w ≢ name_of s) (words_in earlier.now)) }
-    ensures none { IfNone result ((s : Setting) → IsSetting word.now s →
+    ensures none { IfNone result ((s : Setting) → IsSetting word.now s → IsTrue (takes verb s) →
         Any (λ w. name_in w ≡ name_of s) (words_in earlier.now)) }
 {
     let setting = setting_of(word)?;
+    if !verb.takes(&setting) {
+        return None;
+    }
     if is_named(earlier, name_in(word)) {
         return None;
     }

@@ -35,6 +35,12 @@ fn misfits(rt: HostRuntime) -> Result<(), Fail> {
         ("solve pd.nfg directions=6", 2),
         ("solve pd.nfg inner=0 directions=16 inner=1", 4),
         ("solve pd.nfg inner=1 inner=1", 2),
+        ("replay", 0),
+        ("check", 1),
+        ("check pd.nfg", 2),
+        ("check pd.nfg pd.sgc grid=4", 3),
+        ("check pd.nfg pd.sgc discount=1/2 discount=1/2", 4),
+        ("check pd.nfg pd.sgc pd.sgc", 3),
     ] {
         let words = words_of(rt.alloc(), line)?;
         assert!(rt; words.len() < 100);
@@ -102,6 +108,7 @@ fn commands(rt: HostRuntime) -> Result<(), Fail> {
                 assert_eq!(rt; set.slack, slack, "{line}");
                 assert_eq!(rt; set.inner, inner, "{line}");
             }
+            Ok(_) => assert!(rt; false, "another command than {line}"),
             Err(fault) => assert!(rt; false, "word {} of {line}", fault.index),
         }
     }

@@ -1,4 +1,6 @@
-pub mod Answers
+pub mod Asks
 pub mod Completeness
+pub mod Ends
 pub mod Reporting
+pub mod Second
 pub mod Written

@@ -1,6 +1,9 @@
+pub mod Answers
+pub mod Checks
 pub mod Endings
 pub mod Problems
 pub mod Refusals
 pub mod Run
 pub mod Solved
+pub mod Tasks
 pub mod Writing

@@ -4,7 +4,7 @@ use Rattle.pay_outside.specs.Counts.{Rose}
 use Rattle.game_model.specs.Game.{DynamicGame}
 use Rattle.level_table.specs.Tables.{IsFirstBeyond}
 use Rattle.pay_words.specs.declared.options.Settings.{Settings}
-use Rattle.pay_words.specs.Command.{IsCommand, IsMisfit, Request, solving}
+use Rattle.pay_words.specs.Command.{IsCommand, IsMisfit, Request, solving, checking}
 use Rattle.set_operator.specs.declared.row.Verdict.{Verdict}
 use Rattle.set_operator.specs.declared.row.Verdict.TheVariants.{Supported, Unsupported}
 use Rattle.report_text.specs.declared.report.Report.{Report}
@@ -15,7 +15,12 @@ use Rattle.game_files.specs.declared.fault.GameFault.TheVariants as faults
 use Rattle.game_files.specs.Loads.{Counts}
 use Rattle.game_files.specs.Causes.{AreRight, IsGameOf}
 use Rattle.solve_run.specs.declared.outcome.Status.{Status}
-use Rattle.solve_run.specs.declared.outcome.Status.TheVariants.{Settled, Usage, Spent, BadInput, Shape, TooLong, ReadFault, Beyond, WriteFault, NoMemory}
+use Rattle.solve_run.specs.declared.outcome.Status.TheVariants.{Settled, Holds, Fails, Usage, Spent, BadInput, Shape, TooLong, ReadFault, Beyond, WriteFault, NoMemory}
+use Rattle.selfgen_check.specs.declared.fault.CorrFault.{CorrFault}
+use Rattle.selfgen_check.specs.Promises.{Promises}
+use Rattle.solve_run.specs.declared.answer.Answer.{Answer}
+use Rattle.solve_run.specs.declared.answer.Answer.TheVariants.{Solved, Checked}
+use Rattle.solve_run.specs.Checks.{IsCheckFault, IsChecked, IsCorrOf, check_text}
 use Rattle.solve_run.specs.Problems.{problem_in}
 use Rattle.solve_run.specs.Refusals.{IsSolveFault, MayAskFor}
 use Rattle.solve_run.specs.Solved.{IsAnswer}
@@ -39,6 +44,8 @@ IsUnsupportedAt row (Unsupported first level reached) = first ≡ row
 abbrev pub IsStatusOf : Verdict → ℕ → Status → Type 0
 IsStatusOf verdict sweeps Settled = IsSupportedVerdict verdict
 IsStatusOf verdict sweeps (Spent n row) = IsUnsupportedAt row verdict × (n ≡ sweeps)
+IsStatusOf verdict sweeps Holds = ⊥
+IsStatusOf verdict sweeps (Fails fault) = ⊥
 IsStatusOf verdict sweeps (Usage index) = ⊥
 IsStatusOf verdict sweeps (BadInput file at) = ⊥
 IsStatusOf verdict sweeps (Shape fault) = ⊥
@@ -54,6 +61,24 @@ IsWritten report sink shown status =
     ((shown ≡ Some report) × TookAll (IsReportText report) sink × IsStatusOf report.verdict report.sweeps status)
     ⊎ ((n : ℕ) × (status ≡ WriteFault n) × (shown ≡ Some report) × TookPart (IsReportText report) sink n)
     ⊎ ((status ≡ NoMemory) × (shown ≡ None) × TookNothing sink)
+
+-- the status of an answer whose line was taken
+abbrev pub answered_as : Option CorrFault → Status
+answered_as None = Holds
+answered_as (Some fault) = Fails fault
+
+-- The whole line was taken; or its first part, and then the sink failed; or memory ran out before any was offered.
+abbrev pub IsTold : Option CorrFault → Taking → Option Report → Status → Type 0
+IsTold answer sink shown status =
+    (shown ≡ None)
+    × (((status ≡ answered_as answer) × TookAll (λ text. text ≡ check_text answer) sink)
+    ⊎ ((n : ℕ) × (status ≡ WriteFault n) × TookPart (λ text. text ≡ check_text answer) sink n)
+    ⊎ ((status ≡ NoMemory) × TookNothing sink))
+
+-- how an answer was told
+abbrev pub IsTelling : Answer → Taking → Option Report → Status → Type 0
+IsTelling (Solved report) sink shown status = IsWritten report sink shown status
+IsTelling (Checked fault) sink shown status = IsTold fault sink shown status
 
 -- nothing was made and nothing written, for such a fault
 pub record IsRefused (IsFault : GameFault → Type 0) (sink : Taking) (shown : Option Report) (status : Status) : Type 0 where
@@ -77,6 +102,9 @@ abbrev pub IsEnd : (List ℕ → Option (List ℕ)) → Counts → Counts → Ta
 IsEnd told before after sink shown status (solving file set) =
     IsRefused (IsSolveFault told file set before after) sink shown status
     ⊎ ((report : Report) × IsAnswer told file set report × IsWritten report sink shown status)
+IsEnd told before after sink shown status (checking file corr discount) =
+    IsRefused (IsCheckFault told file corr discount before after) sink shown status
+    ⊎ ((answer : Option CorrFault) × IsChecked told file corr discount answer × IsTold answer sink shown status)
 
 -- What each answer says: the words are no command, or they are this one and it came to this end.
 abbrev pub Causes : List (List ℕ) → (List ℕ → Option (List ℕ)) → Counts → Counts → Taking → Option Report → Status → Type 0
@@ -93,11 +121,17 @@ abbrev pub IsRight : (List ℕ → Option (List ℕ)) → Request → Type 0
 IsRight told (solving file set) =
     AreRight told file set.discount
     × ((game : DynamicGame) (number : ℤ) → IsGameOf told file set.discount game → IsFirstBeyond (problem_in game set) number → ⊥)
+IsRight told (checking file corr discount) =
+    AreRight told file discount
+    × (told corr ≡ None → ⊥)
+    × ((game : DynamicGame) → IsGameOf told file discount game → (c : Promises) × IsCorrOf told corr game c)
 
 -- a command came to its end, or memory ran out
 abbrev pub IsThrough : Status → Type 0
 IsThrough Settled = Unit {0}
 IsThrough (Spent sweeps row) = Unit {0}
+IsThrough Holds = Unit {0}
+IsThrough (Fails fault) = Unit {0}
 IsThrough NoMemory = Unit {0}
 IsThrough (Usage index) = ⊥
 IsThrough (BadInput file at) = ⊥

@@ -16,7 +16,7 @@ pub fn line_of(alloc: Global, status: Status) -> Result<Option<String>, AllocErr
     ensures { IfOk result (λ line. option_map string_bytes line ≡ line_text status) }
 {
     match status {
-        Status::Settled | Status::Spent { .. } => Ok(None),
+        Status::Settled | Status::Holds | Status::Fails { .. } | Status::Spent { .. } => Ok(None),
         Status::Usage { index } => Ok(Some(format!(in alloc;
             "payoff: word {index} is not understood"
         )?)),
@@ -131,6 +131,8 @@ pub fn exit_of(status: Status) -> u8
 {
     match status {
         Status::Settled => 0,
+        Status::Holds => 0,
+        Status::Fails { .. } => 1,
         Status::Usage { .. } => 2,
         Status::Spent { .. } => 3,
         Status::BadInput { .. } => 4,
@@ -147,6 +149,7 @@ pub fn exit_of(status: Status) -> u8
 mod tests {
     use super::*;
     use game_model::ShapeFault;
+    use selfgen_check::{CorrFault, Why};
     use std::test::Fail;
 
     #[test]
@@ -160,6 +163,18 @@ mod tests {
                 2,
             ),
             (Status::Spent { sweeps: 3, row: 1 }, None, 3),
+            (Status::Holds, None, 0),
+            (
+                Status::Fails {
+                    fault: CorrFault {
+                        state: 0,
+                        entry: 1,
+                        why: Why::Weights,
+                    },
+                },
+                None,
+                1,
+            ),
             (
                 Status::BadInput { file, at: 29 },
                 Some("payoff: first file is not valid at byte 29"),

@@ -1,10 +1,13 @@
 //! The top call: from words and files to a report.
 #![tactic(auto)]
 
+mod answer;
+mod checking;
 mod ending;
 mod outcome;
 mod run;
 mod solve;
+mod task;
 mod write;
 
 pub use ending::{exit_of, line_of};
@@ -12,6 +15,8 @@ pub use game_files::FileId;
 pub use outcome::{Outcome, Status};
 pub use run::payoff_run;
 
+#[cfg(test)]
+mod check_tests;
 #[cfg(test)]
 mod file_tests;
 #[cfg(test)]

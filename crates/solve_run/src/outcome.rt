@@ -2,12 +2,17 @@ use game_files::FileId;
 use game_model::ShapeFault;
 use nfg_text::What;
 use report_text::Report;
+use selfgen_check::CorrFault;
 
 /// How a call ended.
 #[derive(Clone, Copy, Debug, PartialEq, Eq)]
 pub enum Status {
     /// The table is supported within the slack, and the whole text was taken.
     Settled,
+    /// The correspondence is self-generating, and the whole line was taken.
+    Holds,
+    /// The first entry of the correspondence that isn't generated, and its first broken part; the whole line was taken.
+    Fails { fault: CorrFault },
     /// The words have no settings: the first word that doesn't fit, or the number of words where one is
     /// missing.
     Usage { index: u32 },

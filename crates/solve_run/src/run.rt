@@ -1,29 +1,29 @@
 //! The top call.
 
-ghost use Rattle.std.specs.Prelude.{◌≡◌, ℕ, ◌<◌, ◌^◌, None, length, IfOk, IfErr, OnOk};
+ghost use Rattle.std.specs.Prelude.{◌≡◌, ℕ, ◌<◌, ◌^◌, None, length};
 ghost use Rattle.pay_words.specs.Command.{IsMisfit, words_in};
-ghost use Rattle.pay_words.specs.Options.{AreWithinLimits};
 ghost use Rattle.report_text.specs.ReportText.{IsPrintable};
 ghost use Rattle.game_files.specs.Loads.{counts_of};
-ghost use Rattle.game_files.specs.Files.{MayAskStates};
-ghost use Rattle.solve_run.specs.Refusals.{AsksFor, IsSolveFault, file_name, set_in};
-ghost use Rattle.solve_run.specs.Run.{Causes, IsComplete, IsStatusOf, IsWritten, MayAsk, refused_as};
-ghost use Rattle.solve_run.specs.Solved.{IsAnswer};
+ghost use Rattle.solve_run.specs.Answers.{CanBeTold};
+ghost use Rattle.solve_run.specs.Run.{Causes, IsComplete, IsStatusOf, IsTold, IsTelling, IsWritten, MayAsk, answered_as, refused_as};
 ghost use Rattle.solve_run.specs.Writing.{taking_of};
 
+use crate::answer::{Answer, answer_of};
+use crate::checking::answer_text;
 use crate::outcome::{Outcome, Status};
-use crate::solve::report_on;
+use crate::task::task_of;
 use crate::write::put_all;
-use game_files::{GameFault, game_laws, read_game};
+use game_files::{GameFault, game_laws};
 use pay_outside::{Gate, Shelf, Sink};
-use pay_words::{Command, Settings, UsageFault, command_laws, command_of};
+use pay_words::command_laws;
 use report_text::{Report, text_of};
+use selfgen_check::CorrFault;
 use set_operator::Verdict;
 use std::alloc::Global;
 use std::thread::Threads;
 
-/// Runs one command: reads the words and the files that they name, bounds the payoff sets of the game and writes the
-/// report.
+/// Runs one command: reads the words and the files that they name, and writes the report of a run that bounds the payoff
+/// sets of a game, or the answer whether a correspondence is self-generating.
 pub fn payoff_run<R: Threads + Sync, S: Shelf, K: Sink, G: Gate + Sync>(
     rt: &R,
     alloc: Global,
@@ -53,47 +53,16 @@ pub fn payoff_run<R: Threads + Sync, S: Shelf, K: Sink, G: Gate + Sync>(
 {
     command_laws();
     game_laws();
-    match settings_of(words) {
+    match task_of(words) {
         Err(fault) => refused(Status::Usage { index: fault.index }),
-        Ok(set) => match solve(rt, alloc, name_in(words), &set, shelf, gate) {
+        Ok(task) => match answer_of(rt, alloc, words, &task, shelf, gate) {
             Err(fault) => refused(status_of_fault(fault)),
-            Ok(report) => finish(alloc, sink, report),
+            Ok(answer) => finish(alloc, sink, answer),
         },
     }
 }
 
-/// The settings that the words ask for.
-fn settings_of(words: &[String]) -> Result<Settings, UsageFault>
-    requires { length words.now < 2 ^ 32 }
-    ensures asks { IfOk result (AsksFor (words_in words.now)) }
-    ensures file { OnOk result (1 < length words.now) }
-    ensures limits { IfOk result AreWithinLimits }
-    ensures misfit { IfErr result (λ f. IsMisfit (words_in words.now) f.index) }
-{
-    match command_of(words) {
-        Ok(command) => Ok(set_of(&command)),
-        Err(fault) => Err(fault),
-    }
-}
-
-/// The settings of a command.
-fn set_of(command: &Command) -> Settings
-    ensures { result ≡ set_in command.now }
-{
-    match command {
-        Command::Solve { set, .. } => *set,
-    }
-}
-
-/// The name of the file among the words.
-fn name_in(words: &[String]) -> &str
-    requires { 1 < length words.now }
-    ensures { result.now ≡ file_name (words_in words.now) }
-{
-    words[1].as_str()
-}
-
-/// The end of a call that made nothing.
+/// An end without a report.
 fn refused(status: Status) -> Outcome
     ensures { result ≡ record { status = status; report = None } }
 {
@@ -117,8 +86,19 @@ fn status_of_fault(fault: GameFault) -> Status
     }
 }
 
+/// Writes the text of an answer.
+fn finish<K: Sink>(alloc: Global, sink: &mut K, answer: Answer) -> Outcome
+    requires printable { CanBeTold answer }
+    ensures { IsTelling answer (taking_of K.taken K.faults sink.old sink.new) result.report result.status }
+{
+    match answer {
+        Answer::Solved(report) => write_report(alloc, sink, report),
+        Answer::Checked(fault) => tell(alloc, sink, fault),
+    }
+}
+
 /// Writes the text of a report.
-fn finish<K: Sink>(alloc: Global, sink: &mut K, report: Report) -> Outcome
+fn write_report<K: Sink>(alloc: Global, sink: &mut K, report: Report) -> Outcome
     requires printable { IsPrintable report }
     ensures wrote { IsWritten report (taking_of K.taken K.faults sink.old sink.new) result.report result.status }
 {
@@ -143,6 +123,30 @@ fn finish<K: Sink>(alloc: Global, sink: &mut K, report: Report) -> Outcome
     }
 }
 
+/// Writes the line of an answer.
+fn tell<K: Sink>(alloc: Global, sink: &mut K, answer: Option<CorrFault>) -> Outcome
+    ensures told { IsTold answer (taking_of K.taken K.faults sink.old sink.new) result.report result.status }
+{
+    let text = match answer_text(alloc, answer) {
+        Ok(text) => text,
+        Err(_) => return refused(Status::NoMemory),
+    };
+    match put_all(sink, text.as_bytes()) {
+        Err(written) => refused(Status::WriteFault { written }),
+        Ok(()) => refused(status_of_answer(answer)),
+    }
+}
+
+/// The status of an answer whose line was taken.
+fn status_of_answer(answer: Option<CorrFault>) -> Status
+    ensures { result ≡ answered_as answer }
+{
+    match answer {
+        None => Status::Holds,
+        Some(fault) => Status::Fails { fault },
+    }
+}
+
 /// The status of a report whose whole text was taken.
 fn status_of(report: &Report) -> Status
     ensures { IsStatusOf report.now.verdict report.now.sweeps result }
@@ -154,26 +158,4 @@ fn status_of(report: &Report) -> Status
             row,
         },
     }
-}
-
-/// The report on the game in the file of this name, or why there is none.
-fn solve<R: Threads + Sync, S: Shelf, G: Gate + Sync>(
-    rt: &R,
-    alloc: Global,
-    file: &str,
-    set: &Settings,
-    shelf: &mut S,
-    gate: &G,
-) -> Result<Report, GameFault>
-    requires may_ask { S.may_ask shelf.old file.now }
-    requires may_ask_states { MayAskStates (S.bytes shelf.old) (S.may_ask shelf.old) file.now }
-    requires limits { AreWithinLimits set.now }
-    ensures found { IfOk result (IsAnswer (S.bytes shelf.old) file.now set.now) }
-    ensures printable { IfOk result IsPrintable }
-    ensures why { IfErr result (IsSolveFault (S.bytes shelf.old) file.now set.now
-        (counts_of S.faults S.overlong S.loads shelf.old)
-        (counts_of S.faults S.overlong S.loads shelf.new)) }
-{
-    let game = read_game(alloc, shelf, file, &set.discount)?;
-    report_on(rt, alloc, &game, set, gate)
 }

@@ -10,5 +10,6 @@ returns c = record {
   discount = lemmas.discount_given;
   no_words = lemmas.no_words;
   command_alone = lemmas.command_alone;
-  file_alone = lemmas.file_alone;
+  check_one_file = lemmas.check_one_file;
+  files_alone = lemmas.files_alone;
 }

@@ -14,10 +14,10 @@ returns-in-None-clause-wrong c =
     let more = words_more words i c.index-words-place.result word c.loop-place-test.true c.index-words-place.is c.deref.ensures in
     record {
       there = omega (arith, c.loop-place-test.true, length-words_in words);
-      before = subst AreOptions (sym (take-words_in words i)) c.loop-place.invariant.0;
+      before = subst (AreOptions c.args.verb) (sym (take-words_in words i)) c.loop-place.invariant.0;
       settings = c.loop-place.set;
       given = subst (λ xs. AreSettings xs c.loop-place.set) (sym (take-words_in words i)) c.loop-place.invariant.1;
-      wrong = λ h. wrong_option first word c.in-None.ensures.none (subst AreOptions (take-words_in words (i + 1) ∙ more) h);
+      wrong = λ h. wrong_option c.args.verb first word c.in-None.ensures.none (subst (AreOptions c.args.verb) (take-words_in words (i + 1) ∙ more) h);
     }
 
 pub loop-place-preserved : goal.loop-place-preserved
@@ -30,7 +30,7 @@ loop-place-preserved c =
     let spelled = c.in-Some.ensures.spelled in
     let new = c.in-Some.ensures.new in
     let settings = more_settings first word c.loop-place.set c.in-Some.setting c.loop-place.invariant.1 spelled new in (
-      subst AreOptions (sym more) (more_options first word c.in-Some.setting c.loop-place.invariant.0 spelled new),
+      subst (AreOptions c.args.verb) (sym more) (more_options c.args.verb first word c.in-Some.setting c.loop-place.invariant.0 spelled c.in-Some.ensures.taken new),
       subst (λ xs. AreSettings xs c.with-set.result) (sym more) (subst (λ s. AreSettings (first ++ word ∷ []) s) (sym c.with-set.ensures) settings),
       subst AreWithinLimits (sym c.with-set.ensures) (limits_more c.loop-place.set word c.in-Some.setting c.loop-place.invariant.2 spelled),
     )
