@@ -8,3 +8,6 @@ mod words;
 
 pub use forms::fault_place;
 pub use words::Words;
+
+#[cfg(test)]
+mod tests;
