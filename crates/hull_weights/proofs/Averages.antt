@@ -5,7 +5,7 @@ use Rattle.std.proofs.lemmas.Int.{ints}
 use Rattle.exact_algebra.specs.Poly.{var, lit, ◌⊕◌, ◌⊖◌, ◌⊗◌}
 use Rattle.exact_algebra.proofs.Normal.{ring, equal_if_apart_by_nought}
 use Rattle.exact_algebra.proofs.Order.{at_most_by, product_at_least_zero, same_from_times, sum_at_least_zero}
-use Rattle.hull_weights.specs.Hull.{x_of, y_of, dot, point_at, weighted, total_weight, IsAverage, IsInHull, Separates, IsTriangle}
+use Rattle.hull_weights.specs.Hull.{x_of, y_of, dot, point_at, weighted, total_weight, IsInHull, Separates, IsTriangle}
 use Rattle.hull_weights.specs.declared.arrow.Arrow.{Arrow}
 use Rattle.hull_weights.specs.declared.cone.Cone.{Cone}
 use Rattle.hull_weights.specs.declared.cone.Cone.TheVariants.{Empty, Ray, Wedge}

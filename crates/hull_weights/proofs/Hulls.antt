@@ -4,11 +4,11 @@ use Rattle.std.specs.Prelude.{ℤ, pos, ◌+ℤ◌, ◌*ℤ◌, ◌≤ℤ◌, �
 use Rattle.std.proofs.lemmas.Bool.{cases_lt}
 use Rattle.std.proofs.lemmas.Int.{ints}
 use Rattle.std.proofs.lemmas.List.{get_or_default}
-use Rattle.std.proofs.lemmas.List.Elements.{All-append, All-map, All-contains, Contains-get_or, Contains-append_left, Contains-append_right, Contains-append_cases, Contains-push}
+use Rattle.std.proofs.lemmas.List.Elements.{All-append, All-map, All-contains, Contains-get_or, Contains-append_left, Contains-append_cases, Contains-push}
 use Rattle.exact_algebra.specs.Poly.{var, lit, ◌⊕◌, ◌⊗◌}
 use Rattle.exact_algebra.proofs.Normal.{ring}
 use Rattle.exact_algebra.proofs.Order.{product_above_zero, product_at_least_zero, positive_at_least_zero}
-use Rattle.hull_weights.specs.Hull.{x_of, y_of, point_at, weighted, total_weight, IsAverage, IsInHull}
+use Rattle.hull_weights.specs.Hull.{x_of, y_of, point_at, weighted, total_weight, IsInHull}
 use Rattle.hull_weights.specs.SameHull.{AreIn, HaveSameHull}
 
 -- all weights times a number

@@ -1,8 +1,7 @@
-use Rattle.std.proofs.Common.{◌≡◌, List, [], ◌∷◌, ◌++◌, refl, sym, subst}
-use Rattle.std.specs.Prelude.{ℤ}
+use Rattle.std.proofs.Common.{sym, subst}
 use Rattle.hull_weights.specs.Hull.{IsInHull}
 use Rattle.hull_weights.specs.SameHull.{AreIn}
-use Rattle.hull_weights.proofs.Hulls.{contained_in, more, latest, only_more}
+use Rattle.hull_weights.proofs.Hulls.{contained_in, more, latest}
 use Rattle.hull_weights.proofs.fewer.push_if_outside.Goals as goal
 
 pub returns-in_ok-push-clause-keeps : goal.returns-in_ok-push-clause-keeps
