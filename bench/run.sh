@@ -38,6 +38,18 @@ for game in examples/*.nfg examples/*.dyn; do
     done
 done
 
+for strategies in 4 16; do
+    dir=$(mktemp -d)
+    sh bench/states.sh "$dir" 64 $strategies
+    for directions in 16 32; do
+        for workers in 1 2 4; do
+            words="discount=9/10 directions=$directions grid=16 workers=$workers"
+            measure "64 states of $strategies by $strategies $words" "solve $dir/states.dyn $words"
+        done
+    done
+    rm -rf "$dir"
+done
+
 dir=$(mktemp -d)
 sh bench/set.sh "$dir"
 "$program" check "$dir/game.dyn" "$dir/set.sgc" discount=1/2 || echo 'bench: the set was to hold' >&2
