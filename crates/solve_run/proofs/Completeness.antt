@@ -5,13 +5,13 @@ use Rattle.game_model.specs.Game.{DynamicGame}
 use Rattle.level_table.specs.Tables.{IsFirstBeyond}
 use Rattle.pay_frac.specs.Ratio.{Ratio}
 use Rattle.pay_words.specs.declared.options.Settings.{Settings}
-use Rattle.pay_words.specs.Command.{IsCommand, IsMisfit, Request, solving, checking}
+use Rattle.pay_words.specs.Command.{solving, checking}
 use Rattle.report_text.specs.declared.report.Report.{Report}
 use Rattle.game_files.specs.declared.fault.GameFault.{GameFault}
 use Rattle.game_files.specs.declared.fault.GameFault.TheVariants as faults
 use Rattle.game_files.specs.Loads.{Counts}
 use Rattle.game_files.specs.declared.fault.FileId.TheVariants.{Second}
-use Rattle.game_files.specs.Causes.{AreRight, IsGameOf, IsLoadFault, IsNoGame}
+use Rattle.game_files.specs.Causes.{AreRight, IsLoadFault, IsNoGame}
 use Rattle.game_files.proofs.RightFiles.{not_long, ok_not_err, same_text}
 use Rattle.selfgen_check.specs.declared.fault.CorrFault.{CorrFault}
 use Rattle.selfgen_check.specs.declared.text_fault.CorrTextFault.{CorrTextFault}

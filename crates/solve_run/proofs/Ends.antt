@@ -1,5 +1,5 @@
 -- the end of a command, by what it asks for
-use Rattle.std.proofs.Common.{◌≡◌, inl, inr, ℕ, List, Option}
+use Rattle.std.proofs.Common.{inl, inr, ℕ, List, Option}
 use Rattle.pay_outside.specs.Counts.{Rose}
 use Rattle.pay_words.specs.Command.{Request, solving, checking}
 use Rattle.report_text.specs.declared.report.Report.{Report}

@@ -1,5 +1,5 @@
 -- What a check answers of the correspondence in a file, and why it answers nothing.
-use Rattle.std.specs.Prelude.{◌≡◌, ◌⊎◌, ℕ, ◌+◌, ◌<◌, List, ◌++◌, ◌∷◌, [], length, codes, decimal, Option, Some, None, Ok, Err}
+use Rattle.std.specs.Prelude.{◌≡◌, ◌⊎◌, ℕ, ◌+◌, List, ◌++◌, ◌∷◌, codes, decimal, Option, Some, None, Ok, Err}
 use Rattle.pay_frac.specs.Ratio.{Ratio}
 use Rattle.game_model.specs.Game.{DynamicGame}
 use Rattle.game_model.specs.SelfGeneration.{IsSelfGenerating}

@@ -1,9 +1,8 @@
 -- What the top call promises: which answer comes from which cause, what the report is, and what the sink has then taken.
-use Rattle.std.specs.Prelude.{◌≡◌, ◌⊎◌, ℕ, ◌<◌, ◌≤◌, List, length, Option, Some, None, ℤ}
+use Rattle.std.specs.Prelude.{◌≡◌, ◌⊎◌, ℕ, List, Option, Some, None, ℤ}
 use Rattle.pay_outside.specs.Counts.{Rose}
 use Rattle.game_model.specs.Game.{DynamicGame}
 use Rattle.level_table.specs.Tables.{IsFirstBeyond}
-use Rattle.pay_words.specs.declared.options.Settings.{Settings}
 use Rattle.pay_words.specs.Command.{IsCommand, IsMisfit, Request, solving, checking}
 use Rattle.set_operator.specs.declared.row.Verdict.{Verdict}
 use Rattle.set_operator.specs.declared.row.Verdict.TheVariants.{Supported, Unsupported}

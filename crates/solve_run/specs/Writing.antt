@@ -1,5 +1,5 @@
 -- What a sink has taken of a text, and what is then left.
-use Rattle.std.specs.Prelude.{◌≡◌, ℕ, ◌<◌, List, ◌++◌, length, take, Option, Some, None}
+use Rattle.std.specs.Prelude.{◌≡◌, ℕ, ◌<◌, List, ◌++◌, length, take, Option}
 use Rattle.std.specs.Option.{option_map}
 use Rattle.pay_outside.specs.Counts.{Rose}
 

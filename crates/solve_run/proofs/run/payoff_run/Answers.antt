@@ -1,4 +1,4 @@
-use Rattle.std.proofs.Common.{◌≡◌, ◌∙◌, inl, inr, refl, sym, subst, ap}
+use Rattle.std.proofs.Common.{◌≡◌, ◌∙◌, inr, refl, sym, subst, ap}
 use Rattle.pay_words.specs.Command.{Request, words_in}
 use Rattle.game_files.specs.Loads.{Counts, counts_of}
 use Rattle.solve_run.specs.declared.outcome.Outcome.{Outcome}
