@@ -1,20 +1,19 @@
 -- The canonical text of a correspondence is one that has it.
-use Rattle.std.proofs.Common.{◌≡◌, ℕ, zero, suc, ◌+◌, ◌-◌, ◌<◌, ◌≤◌, ◌^◌, true, List, [], ◌∷◌, ◌++◌, length, map, Option, Some, None, Result, Ok, Err, All, IfOk, refl, sym, ◌∙◌, ap, arith, append_assoc, codes, decimal, lit<, ℤ}
+use Rattle.std.proofs.Common.{◌≡◌, ℕ, suc, ◌+◌, ◌-◌, ◌<◌, ◌≤◌, ◌^◌, true, List, [], ◌∷◌, ◌++◌, length, map, Option, Some, None, Result, Ok, All, refl, sym, ◌∙◌, ap, arith, append_assoc, codes, decimal, lit<, ℤ}
 use Rattle.std.specs.List.{flat_map}
 use Rattle.std.specs.Option.{option_map}
 use Rattle.pay_frac.specs.Ratio.{Ratio}
 use Rattle.pay_frac.specs.Number.{lowest}
-use Rattle.token_text.specs.Tokens.{Token, word, Stream, next, rest, stream_of}
+use Rattle.token_text.specs.Tokens.{Token, word, Stream, rest}
 use Rattle.token_text.proofs.Written.{written, ends_word, whole_text, blank_written, open_written, close_written, word_written}
 use Rattle.nfg_text.specs.declared.fault.NfgFault.{NfgFault}
-use Rattle.nfg_text.specs.declared.what.What.{What}
 use Rattle.nfg_text.specs.declared.what.What.TheVariants.{Whole, Weight}
-use Rattle.nfg_text.specs.Wanted.{◌>>=◌, bad, whole_in, limited, exact_at, open_at, close_at, end_at, number_at, many_at, times_at, behind, bad_past}
+use Rattle.nfg_text.specs.Wanted.{◌>>=◌, whole_in, exact_at, open_at, close_at, end_at, number_at, many_at, behind, bad_past}
 use Rattle.nfg_text.specs.Writable.{IsShort}
 use Rattle.nfg_text.specs.Canonical.{braced, counts_text, ratio_text}
 use Rattle.nfg_text.proofs.Decimals.{whole_again, limited_again, decimal_word}
 use Rattle.nfg_text.proofs.Loops.{many_end, behind_none}
-use Rattle.nfg_text.proofs.Written.{IsRead, IsPassed, Items, read_blank, passed_blank, open_passed, close_passed, exact_passed, number_read, end_passed, all_first, all_others, items_end, times_first, times_none, times_read, many_read, many_closed, braced_append}
+use Rattle.nfg_text.proofs.Written.{IsRead, Items, read_blank, passed_blank, open_passed, close_passed, exact_passed, number_read, end_passed, all_first, all_others, items_end, times_read, many_read, many_closed, braced_append}
 use Rattle.game_model.specs.Game.{DynamicGame, states}
 use Rattle.game_model.specs.SelfGeneration.{Entry}
 use Rattle.selfgen_check.specs.declared.written.Written.{Written}

@@ -1,4 +1,4 @@
-use Rattle.std.proofs.Common.{◌≡◌, ◌+◌, ◌∷◌, [], length, drop, sym, subst, ◌∙◌, arith, ap}
+use Rattle.std.proofs.Common.{◌≡◌, length, drop, sym, subst, ◌∙◌, arith}
 use Rattle.std.proofs.lemmas.Bool.{eqb-true, eqb-false}
 use Rattle.pay_words.specs.Command.{IsMisfit, words_in}
 use Rattle.pay_words.proofs.CommandLemmas.{answered, no_verb, no_words, refused}
