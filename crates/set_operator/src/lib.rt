@@ -2,6 +2,7 @@
 //! admits nothing (Judd, Yeltekin and Conklin 2003; one set of bounds for each state after Yeltekin, Cai and Judd 2017).
 #![tactic(auto)]
 
+mod alive;
 mod best;
 mod boxes;
 mod lesser;
@@ -14,6 +15,7 @@ mod row;
 mod search;
 mod sides;
 
+pub use alive::is_alive;
 pub use lesser::Lesser;
 pub use prepared::{Prepared, stays_prepared};
 pub use row::{RowAnswer, Support, Verdict, row_level};

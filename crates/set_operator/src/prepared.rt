@@ -14,7 +14,7 @@ ghost use Rattle.set_operator.specs.Lines.{AreAll};
 ghost use Rattle.set_operator.specs.Prepared.{IsBoxAt, IsLesser, IsPrepared, KeepsAxes, PreparedState};
 ghost use Rattle.set_operator.specs.Search.{IsLargestSoFar, IsLeader};
 
-use crate::best::{Best, admits, best_of};
+use crate::best::{Best, best_of};
 use crate::boxes::{ProfileBox, known_states};
 use crate::lesser::Lesser;
 use crate::lines::{Asks, fill_asks};
@@ -133,16 +133,6 @@ impl Prepared {
         lesser_of(p, levels, row, level, found)
     }
 
-    /// Whether some profile of the state admits a point.
-    pub fn is_alive(&self, p: &Problem, levels: &LevelTable) -> bool
-        requires table { IsSmallTable p.now levels.now }
-        requires ready { IsPrepared p.now (levels_in levels.now) self.now }
-        ensures { IsTrue result ↔ HasAdmissible p.now (levels_in levels.now) self.now.state }
-    {
-        let _count = p.game().profiles(self.state);
-        some_admits(p, levels, self.state, &self.boxes)
-    }
-
     /// Fills the list with one reason for each profile of the state, which admits nothing.
     pub fn explain(&self, p: &Problem, levels: &LevelTable, reasons: &mut ReasonList)
         requires table { IsSmallTable p.now levels.now }
@@ -238,47 +228,5 @@ fn lesser_of(
             level: level.min(level_of(p, levels, row, &best)),
             profile: best.profile,
         }),
-    }
-}
-
-/// Whether some profile of a state admits a point.
-fn some_admits(
-    p: &Problem,
-    levels: &LevelTable,
-    state: u32,
-    programs: &[Option<ProfileBox>],
-) -> bool
-    requires table { IsSmallTable p.now levels.now }
-    requires one_each { length programs.now ≡ profile_count (counts p.now.game state) }
-    requires few { length programs.now < 2 ^ 32 }
-    requires each { (a : ℕ) → a < length programs.now → IsBoxAt p.now (levels_in levels.now) state a (slice_index_or programs.now a None) }
-    ensures { IsTrue result ↔ HasAdmissible p.now (levels_in levels.now) state }
-{
-    let mut rows = some_rows();
-    for a in 0..programs.len() {
-        if admits_at(p, levels, &programs[a], state, a as u32, &mut rows) {
-            return true;
-        }
-    }
-    false
-}
-
-/// Whether profile `a` of a state admits a point.
-fn admits_at(
-    p: &Problem,
-    levels: &LevelTable,
-    program: &Option<ProfileBox>,
-    state: u32,
-    a: u32,
-    rows: &mut Rows,
-) -> bool
-    requires table { IsSmallTable p.now levels.now }
-    requires at { IsBoxAt p.now (levels_in levels.now) state a program.now }
-    ensures some { IsTrue result → (z : Fractions) × Admissible p.now (levels_in levels.now) state a z }
-    ensures none { (z : Fractions) → Admissible p.now (levels_in levels.now) state a z → IsTrue result }
-{
-    match program {
-        Some(found) => admits(p, levels, found, rows),
-        None => false,
     }
 }

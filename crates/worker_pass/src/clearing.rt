@@ -17,6 +17,7 @@ ghost use Rattle.worker_pass.specs.Sweeps.{IsCleared};
 use crate::scratch::Scratch;
 use level_board::{Board, Owner};
 use level_table::Level;
+use set_operator::is_alive;
 
 /// The owner loads a row.
 fn load_one(board: &Board<'_>, owner: &mut Owner, scratch: &mut Scratch, row: u32)
@@ -163,10 +164,10 @@ fn clear_dead(board: &Board<'_>, owner: &mut Owner, scratch: &mut Scratch, s: u3
     if scratch.levels.at(s, 0) == Level::Empty {
         return 0;
     }
-    scratch.make_ready(p, s);
-    if scratch.prepared.is_alive(p, &scratch.levels) {
+    if is_alive(p, &scratch.levels, s) {
         return 0;
     }
+    scratch.make_ready(p, s);
     name_state(board, owner, scratch, s);
     clear_state(board, owner, scratch, s);
     1

@@ -1,8 +1,9 @@
-use Rattle.std.proofs.Common.{inl, inr, sym, subst, arith}
+use Rattle.std.proofs.Common.{inl, inr, sym, subst, arith, ap}
+use Rattle.game_model.specs.Game.{counts, profile_count}
 use Rattle.std.proofs.lemmas.Bool.{cases_eq}
 use Rattle.level_table.specs.Levels.{levels_in}
 use Rattle.level_table.specs.Operator.{Admissible}
-use Rattle.set_operator.proofs.prepared.some_admits.Goals as goal
+use Rattle.set_operator.proofs.alive.is_alive.Goals as goal
 
 pub loop-a-preserved : goal.loop-a-preserved
 loop-a-preserved c = λ b y below adm. elim (cases_eq c.loop-a.a b) [
@@ -13,5 +14,5 @@ loop-a-preserved c = λ b y below adm. elim (cases_eq c.loop-a.a b) [
 pub returns : goal.returns
 returns c = (
   λ t. absurd (cc),
-  λ h. absurd (c.loop-a.invariant h.profile h.vector (omega (arith, h.known, c.requires.one_each, c.loop-a.auto.a-end, c.loop-a-test.false)) h.admissible),
+  λ h. absurd (c.loop-a.invariant h.profile h.vector (omega (arith, h.known, ap (λ g. profile_count (counts g c.args.state)) c.game.ensures.game, c.profiles-a-end.ensures, c.loop-a.auto.a-end, c.loop-a-test.false)) h.admissible),
 )
