@@ -7,6 +7,7 @@ use Rattle.std.proofs.Math.Nat.{mul-le-mul_left}
 use Rattle.game_model.specs.Game.{DynamicGame, counts, Divides}
 use Rattle.game_model.specs.Parts.{KeepLimits}
 use Rattle.game_model.specs.Worked.{prisoners}
+use Rattle.game_model.proofs.Cases.{below_one, divides_one, in_range, two_at}
 
 -- its parts, of whose base nothing is asked
 abbrev pub shape : ℕ → ℕ → DynamicGame
@@ -14,9 +15,6 @@ shape p q = record (prisoners p q) { base = 1 }
 
 dilemma_payoffs : List ℤ
 dilemma_payoffs = pos 2 ∷ pos 2 ∷ pos 3 ∷ pos 0 ∷ pos 0 ∷ pos 3 ∷ pos 1 ∷ pos 1 ∷ []
-
-in_range : (x : ℕ) → x ≤ 3 → (neg_ℤ (pos (2 ^ 26)) ≤ℤ pos x) × (pos x ≤ℤ pos (2 ^ 26))
-in_range x h = (omega (arith, ints), omega (arith, ints))
 
 payoffs_within : (k : ℕ) → k < 8 → (neg_ℤ (pos (2 ^ 26)) ≤ℤ get_or dilemma_payoffs k (pos 0)) × (get_or dilemma_payoffs k (pos 0) ≤ℤ pos (2 ^ 26))
 unfolding dilemma_payoffs
@@ -30,15 +28,6 @@ payoffs_within (suc (suc (suc (suc (suc (suc zero)))))) h = in_range 1 (lit≤ t
 payoffs_within (suc (suc (suc (suc (suc (suc (suc zero))))))) h = in_range 1 (lit≤ tt)
 payoffs_within (suc (suc (suc (suc (suc (suc (suc (suc k)))))))) h = absurd (omega arith)
 
-two_at : (x : ℕ) (P : ℕ → Type 0) → P x → (i : ℕ) → i < 2 → P (get_or (x ∷ x ∷ []) i 0)
-two_at x P a zero h = a
-two_at x P a (suc zero) h = a
-two_at x P a (suc (suc i)) h = absurd (omega arith)
-
-one_state : (P : ℕ → Type 0) → P 0 → (s : ℕ) → s < 1 → P s
-one_state P a zero h = a
-one_state P a (suc s) h = absurd (omega arith)
-
 keeps_limits : (p q : ℕ) → 0 < p → p < q → q ≤ 1024 → ((d : ℕ) → Divides d q → Divides d p → d ≤ 1) → KeepLimits (shape p q)
 unfolding dilemma_payoffs
 keeps_limits p q some below few lowest = record {
@@ -48,9 +37,9 @@ keeps_limits p q some below few lowest = record {
   few_states = lit≤ tt;
   payoffs_listed = refl;
   next_listed = refl;
-  some_strategy = λ s i hs hi. one_state (λ s. (i : ℕ) → i < length (counts (shape p q) s) → 1 ≤ slice_index (counts (shape p q) s) i) (two_at 2 (λ m. 1 ≤ m) (lit≤ tt)) s hs i hi;
-  few_strategies = λ s i hs hi. one_state (λ s. (i : ℕ) → i < length (counts (shape p q) s) → slice_index (counts (shape p q) s) i ≤ 16) (two_at 2 (λ m. m ≤ 16) (lit≤ tt)) s hs i hi;
-  payoffs_small = λ s k hs hk. one_state (λ s. (k : ℕ) → k < length (get_or (shape p q).payoffs s []) → (neg_ℤ (pos (2 ^ 26)) ≤ℤ get_or (get_or (shape p q).payoffs s []) k (pos 0)) × (get_or (get_or (shape p q).payoffs s []) k (pos 0) ≤ℤ pos (2 ^ 26))) payoffs_within s hs k hk;
+  some_strategy = λ s i hs hi. below_one (λ s. (i : ℕ) → i < length (counts (shape p q) s) → 1 ≤ slice_index (counts (shape p q) s) i) (two_at 2 (λ m. 1 ≤ m) (lit≤ tt)) s hs i hi;
+  few_strategies = λ s i hs hi. below_one (λ s. (i : ℕ) → i < length (counts (shape p q) s) → slice_index (counts (shape p q) s) i ≤ 16) (two_at 2 (λ m. m ≤ 16) (lit≤ tt)) s hs i hi;
+  payoffs_small = λ s k hs hk. below_one (λ s. (k : ℕ) → k < length (get_or (shape p q).payoffs s []) → (neg_ℤ (pos (2 ^ 26)) ≤ℤ get_or (get_or (shape p q).payoffs s []) k (pos 0)) × (get_or (get_or (shape p q).payoffs s []) k (pos 0) ≤ℤ pos (2 ^ 26))) payoffs_within s hs k hk;
   denominator_positive = omega (arith, ints);
   denominator_small = omega (arith, ints);
   discounts_listed = refl;
@@ -59,10 +48,6 @@ keeps_limits p q some below few lowest = record {
   q_small = few;
   lowest = λ d whole each. lowest d whole (each 0 (lit< tt));
 }
-
-divides_one : (d k : ℕ) → 1 ≡ d * k → d ≤ 1
-divides_one d zero e = absurd (omega arith)
-divides_one d (suc k) e = omega arith
 
 -- what divides two numbers that follow one another
 divides_both : (d a b x : ℕ) → x ≡ d * a → x + 1 ≡ d * b → d ≤ 1

@@ -6,13 +6,10 @@ use Rattle.std.proofs.lemmas.List.Elements.{All-nil, All-cons}
 use Rattle.std.proofs.lemmas.List.Kept.{AllPairs-cons}
 use Rattle.game_model.specs.Game.{IsDeviation}
 use Rattle.game_model.specs.Worked.{prisoners}
+use Rattle.game_model.proofs.Cases.{below_one}
 use Rattle.inner_sets.specs.Candidates.{IsAscending, IsCandidate, Precedes}
 use Rattle.inner_sets.specs.Choice.{sublist, IsDeterred, IsGiven, Meets, IsChoice}
 use Rattle.inner_sets.specs.Worked.{apart, together, both_points, one_point}
-
-one_state : (P : ℕ → Type 0) → P 0 → (s : ℕ) → s < 1 → P s
-one_state P a zero h = a
-one_state P a (suc s) h = absurd (omega arith)
 
 one_item : {X : Type 0} (P : X → Type 0) (x : X) → P x → All P (x ∷ [])
 one_item P x h = All-cons P x [] h (All-nil P)
@@ -91,15 +88,15 @@ apart_alone = record {
 pub both_given : IsChoice (prisoners 1 2) 1 both_points
 both_given = record {
   one_list_each = refl;
-  ascending = one_state (λ s. IsAscending (sublist both_points s)) (AllPairs-cons Precedes apart (together ∷ []) (one_item (Precedes apart) together (inl (omega (arith, ints)))) (no_pairs together));
-  candidates = one_state (λ s. All (IsCandidate (prisoners 1 2) 1 s) (sublist both_points s)) (two_items (IsCandidate (prisoners 1 2) 1 0) apart together (refl, inl (3, lit< tt, refl, refl)) (refl, inl (0, lit< tt, refl, refl)));
-  given = one_state (λ s. All (IsGiven (prisoners 1 2) 1 both_points s) (sublist both_points s)) (two_items (IsGiven (prisoners 1 2) 1 both_points 0) apart together (3, lit< tt, apart_meets) (0, lit< tt, together_meets));
+  ascending = below_one (λ s. IsAscending (sublist both_points s)) (AllPairs-cons Precedes apart (together ∷ []) (one_item (Precedes apart) together (inl (omega (arith, ints)))) (no_pairs together));
+  candidates = below_one (λ s. All (IsCandidate (prisoners 1 2) 1 s) (sublist both_points s)) (two_items (IsCandidate (prisoners 1 2) 1 0) apart together (refl, inl (3, lit< tt, refl, refl)) (refl, inl (0, lit< tt, refl, refl)));
+  given = below_one (λ s. All (IsGiven (prisoners 1 2) 1 both_points s) (sublist both_points s)) (two_items (IsGiven (prisoners 1 2) 1 both_points 0) apart together (3, lit< tt, apart_meets) (0, lit< tt, together_meets));
 }
 
 pub one_given : IsChoice (prisoners 49 100) 1 one_point
 one_given = record {
   one_list_each = refl;
-  ascending = one_state (λ s. IsAscending (sublist one_point s)) (no_pairs apart);
-  candidates = one_state (λ s. All (IsCandidate (prisoners 49 100) 1 s) (sublist one_point s)) (one_item (IsCandidate (prisoners 49 100) 1 0) apart (refl, inl (3, lit< tt, refl, refl)));
-  given = one_state (λ s. All (IsGiven (prisoners 49 100) 1 one_point s) (sublist one_point s)) (one_item (IsGiven (prisoners 49 100) 1 one_point 0) apart (3, lit< tt, apart_alone));
+  ascending = below_one (λ s. IsAscending (sublist one_point s)) (no_pairs apart);
+  candidates = below_one (λ s. All (IsCandidate (prisoners 49 100) 1 s) (sublist one_point s)) (one_item (IsCandidate (prisoners 49 100) 1 0) apart (refl, inl (3, lit< tt, refl, refl)));
+  given = below_one (λ s. All (IsGiven (prisoners 49 100) 1 one_point s) (sublist one_point s)) (one_item (IsGiven (prisoners 49 100) 1 one_point 0) apart (3, lit< tt, apart_alone));
 }
