@@ -20,10 +20,11 @@ use Rattle.pay_frac.specs.declared.numbers.NumberFault.{NumberFault}
 use Rattle.pay_frac.specs.Spelling.{Spells, Spelling, digit_count, spelled_num, spelled_den}
 use Rattle.pay_frac.proofs.Laws.{one_spelling, same_number, spelled_positive}
 use Rattle.pay_words.specs.declared.options.Setting.{Setting}
-use Rattle.pay_words.specs.declared.options.Setting.TheVariants.{Discount, Directions, Workers, Budget, Grid, Slack, Inner}
+use Rattle.pay_words.specs.declared.options.Setting.TheVariants.{Discount, Directions, Workers, Budget, Grid, Slack, Inner, Seed, States}
+use Rattle.pay_words.specs.declared.options.Given.{Given}
 use Rattle.pay_words.specs.declared.options.Settings.{Settings}
 use Rattle.pay_words.specs.declared.options.Verb.{Verb}
-use Rattle.pay_words.specs.Options.{AreOptions, AreSettings, AreWithinLimits, Holds, IsDiscount, IsSetting, IsValue, name_in, name_of, takes, usual_settings, with_setting}
+use Rattle.pay_words.specs.Options.{AreLimited, AreOptions, AreSettings, AreWithinLimits, Holds, IsDiscount, IsSetting, IsValue, name_in, name_of, put, takes, usual_given, with_setting}
 
 -- ---- names
 pub apart : (a b : List ℕ) → bytes_eq a b ≡ false → a ≡ b → ⊥
@@ -48,6 +49,8 @@ name_ends (Budget n) text = refl
 name_ends (Grid n) text = refl
 name_ends (Slack n) text = refl
 name_ends (Inner n) text = refl
+name_ends (Seed n) text = refl
+name_ends (States n) text = refl
 
 pub named : (w : List ℕ) (s : Setting) → IsSetting w s → name_in w ≡ name_of s
 named w s h = ap name_in h.shape ∙ name_ends s h.text
@@ -67,6 +70,8 @@ one_value text (Budget a) (Budget b) n h k = ap Budget (h.spells.value ∙ sym k
 one_value text (Grid a) (Grid b) n h k = ap Grid (h.spells.value ∙ sym k.spells.value)
 one_value text (Slack a) (Slack b) n h k = ap Slack (h.spells.value ∙ sym k.spells.value)
 one_value text (Inner a) (Inner b) n h k = ap Inner (h.spells.value ∙ sym k.spells.value)
+one_value text (Seed a) (Seed b) n h k = ap Seed (h.spells.value ∙ sym k.spells.value)
+one_value text (States a) (States b) n h k = ap States (h.spells.value ∙ sym k.spells.value)
 one_value text s t n h k = absurd (apart (name_of s) (name_of t) refl n)
 
 -- what stands behind the same name
@@ -104,7 +109,7 @@ made_setting word name text None e n v = tt
 made_setting word name text (Some s) e n v = record { text = text; shape = e ∙ ap (λ x. x ++ 61 ∷ text) (sym n); value = v }
 
 -- ---- settings among others
-holds_put : (set : Settings) (s : Setting) → Holds (with_setting set s) s
+holds_put : (set : Given) (s : Setting) → Holds (put set s) s
 holds_put set (Discount d) = refl
 holds_put set (Directions n) = refl
 holds_put set (Workers n) = refl
@@ -112,8 +117,10 @@ holds_put set (Budget n) = refl
 holds_put set (Grid n) = refl
 holds_put set (Slack n) = refl
 holds_put set (Inner n) = refl
+holds_put set (Seed n) = refl
+holds_put set (States n) = refl
 
-holds_other : (set : Settings) (s t : Setting) → (name_of s ≡ name_of t → ⊥) → Holds (with_setting set s) t ↔ Holds set t
+holds_other : (set : Given) (s t : Setting) → (name_of s ≡ name_of t → ⊥) → Holds (put set s) t ↔ Holds set t
 holds_other set (Discount d) (Discount e) n = absurd (n refl)
 holds_other set (Directions a) (Directions b) n = absurd (n refl)
 holds_other set (Workers a) (Workers b) n = absurd (n refl)
@@ -121,9 +128,11 @@ holds_other set (Budget a) (Budget b) n = absurd (n refl)
 holds_other set (Grid a) (Grid b) n = absurd (n refl)
 holds_other set (Slack a) (Slack b) n = absurd (n refl)
 holds_other set (Inner a) (Inner b) n = absurd (n refl)
+holds_other set (Seed a) (Seed b) n = absurd (n refl)
+holds_other set (States a) (States b) n = absurd (n refl)
 holds_other set s t n = (λ h. h, λ h. h)
 
-pub holds_one : (set : Settings) (s t : Setting) → name_of s ≡ name_of t → Holds set s → Holds set t → s ≡ t
+pub holds_one : (set : Given) (s t : Setting) → name_of s ≡ name_of t → Holds set s → Holds set t → s ≡ t
 holds_one set (Discount d) (Discount e) n h k = ap Discount (sym h ∙ k)
 holds_one set (Directions a) (Directions b) n h k = let e : Some a ≡ Some b = sym h ∙ k in ap Directions (cc)
 holds_one set (Workers a) (Workers b) n h k = ap Workers (sym h ∙ k)
@@ -131,6 +140,8 @@ holds_one set (Budget a) (Budget b) n h k = ap Budget (sym h ∙ k)
 holds_one set (Grid a) (Grid b) n h k = ap Grid (sym h ∙ k)
 holds_one set (Slack a) (Slack b) n h k = ap Slack (sym h ∙ k)
 holds_one set (Inner a) (Inner b) n h k = let e : Some a ≡ Some b = sym h ∙ k in ap Inner (cc)
+holds_one set (Seed a) (Seed b) n h k = let e : Some a ≡ Some b = sym h ∙ k in ap Seed (cc)
+holds_one set (States a) (States b) n h k = ap States (sym h ∙ k)
 holds_one set s t n h k = absurd (apart (name_of s) (name_of t) refl n)
 
 -- ---- words, one by one
@@ -140,7 +151,7 @@ at_end xs w d = get_or-append_seam xs w [] d
 pub no_options : (verb : Verb) → AreOptions verb []
 no_options verb = record { each = λ k d l. absurd (omega arith); once = λ i j d l m. absurd (omega arith) }
 
-pub no_settings : AreSettings [] usual_settings
+pub no_settings : AreSettings [] usual_given
 no_settings = record { given = λ s a. absurd (let l : a.0 < 0 = a.2 in omega arith); usual = λ s a. (λ h. h, λ h. h) }
 
 pub more_options : (verb : Verb) (words : List (List ℕ)) (w : List ℕ) (s : Setting) → AreOptions verb words → IsSetting w s → IsTrue (takes verb s) → All (λ v. name_in v ≢ name_of s) words
@@ -172,13 +183,13 @@ all_fewer words w name a = (
   λ e. a (length words) [] (omega (arith, length-append words (w ∷ []))) (ap name_in (at_end words w []) ∙ e),
 )
 
-pub more_settings : (words : List (List ℕ)) (w : List ℕ) (set : Settings) (s : Setting) → AreSettings words set → IsSetting w s → All (λ v. name_in v ≢ name_of s) words
-    → AreSettings (words ++ w ∷ []) (with_setting set s)
+pub more_settings : (words : List (List ℕ)) (w : List ℕ) (set : Given) (s : Setting) → AreSettings words set → IsSetting w s → All (λ v. name_in v ≢ name_of s) words
+    → AreSettings (words ++ w ∷ []) (put set s)
 more_settings words w set s h k new = record {
   given = λ t a. ⊎_elim
       (λ (b : Any (λ v. IsSetting v t) words).
       (holds_other set s t (λ e. new b.0 b.1 b.2 (ap name_in b.3 ∙ named b.1 t b.4 ∙ sym e))).1 (h.given t b))
-      (λ (b : IsSetting w t). subst (λ x. Holds (with_setting set s) x) (one_setting w s t k b) (holds_put set s))
+      (λ (b : IsSetting w t). subst (λ x. Holds (put set s) x) (one_setting w s t k b) (holds_put set s))
       (any_more words w t a);
   usual = λ t a.
       let b = all_fewer words w (name_of t) a in
@@ -261,7 +272,7 @@ options_in_order verb xs ys p h =
           (get_or-map name_in ys i d [] (omega arith) ∙ e ∙ sym (get_or-map name_in ys j d [] m));
     }
 
-pub settings_in_order : (xs ys : List (List ℕ)) (set : Settings) → IsPermutation xs ys → AreSettings xs set → AreSettings ys set
+pub settings_in_order : (xs ys : List (List ℕ)) (set : Given) → IsPermutation xs ys → AreSettings xs set → AreSettings ys set
 settings_in_order xs ys set p h =
     let q = IsPermutation-sym xs ys p in
     record {
@@ -272,11 +283,19 @@ settings_in_order xs ys set p h =
     }
 
 -- a word that is put in its place keeps the limits
-pub limits_more : (set : Settings) (w : List ℕ) (s : Setting) → AreWithinLimits set → IsSetting w s → AreWithinLimits (with_setting set s)
-limits_more set w (Discount d) h is = record { lowest = is.value.lowest; above_zero = is.value.above; below_one = is.value.below; directions = h.directions; some_worker = h.some_worker; grid = h.grid; some_slack = h.some_slack }
-limits_more set w (Directions n) h is = record { lowest = h.lowest; above_zero = h.above_zero; below_one = h.below_one; directions = is.value.count; some_worker = h.some_worker; grid = h.grid; some_slack = h.some_slack }
-limits_more set w (Workers n) h is = record { lowest = h.lowest; above_zero = h.above_zero; below_one = h.below_one; directions = h.directions; some_worker = is.value.from; grid = h.grid; some_slack = h.some_slack }
-limits_more set w (Budget n) h is = record { lowest = h.lowest; above_zero = h.above_zero; below_one = h.below_one; directions = h.directions; some_worker = h.some_worker; grid = h.grid; some_slack = h.some_slack }
-limits_more set w (Grid n) h is = record { lowest = h.lowest; above_zero = h.above_zero; below_one = h.below_one; directions = h.directions; some_worker = h.some_worker; grid = is.value.upto; some_slack = h.some_slack }
-limits_more set w (Slack n) h is = record { lowest = h.lowest; above_zero = h.above_zero; below_one = h.below_one; directions = h.directions; some_worker = h.some_worker; grid = h.grid; some_slack = is.value.from }
-limits_more set w (Inner n) h is = record { lowest = h.lowest; above_zero = h.above_zero; below_one = h.below_one; directions = h.directions; some_worker = h.some_worker; grid = h.grid; some_slack = h.some_slack }
+run_limits : (set : Settings) (w : List ℕ) (s : Setting) → AreWithinLimits set → IsSetting w s → AreWithinLimits (with_setting set s)
+run_limits set w (Discount d) h is = record { lowest = is.value.lowest; above_zero = is.value.above; below_one = is.value.below; directions = h.directions; some_worker = h.some_worker; grid = h.grid; some_slack = h.some_slack; inner = h.inner }
+run_limits set w (Directions n) h is = record { lowest = h.lowest; above_zero = h.above_zero; below_one = h.below_one; directions = is.value.count; some_worker = h.some_worker; grid = h.grid; some_slack = h.some_slack; inner = h.inner }
+run_limits set w (Workers n) h is = record { lowest = h.lowest; above_zero = h.above_zero; below_one = h.below_one; directions = h.directions; some_worker = is.value.from; grid = h.grid; some_slack = h.some_slack; inner = h.inner }
+run_limits set w (Budget n) h is = record { lowest = h.lowest; above_zero = h.above_zero; below_one = h.below_one; directions = h.directions; some_worker = h.some_worker; grid = h.grid; some_slack = h.some_slack; inner = h.inner }
+run_limits set w (Grid n) h is = record { lowest = h.lowest; above_zero = h.above_zero; below_one = h.below_one; directions = h.directions; some_worker = h.some_worker; grid = is.value.upto; some_slack = h.some_slack; inner = h.inner }
+run_limits set w (Slack n) h is = record { lowest = h.lowest; above_zero = h.above_zero; below_one = h.below_one; directions = h.directions; some_worker = h.some_worker; grid = h.grid; some_slack = is.value.from; inner = h.inner }
+run_limits set w (Inner n) h is = record { lowest = h.lowest; above_zero = h.above_zero; below_one = h.below_one; directions = h.directions; some_worker = h.some_worker; grid = h.grid; some_slack = h.some_slack; inner = is.value.upto }
+run_limits set w (Seed n) h is = h
+run_limits set w (States n) h is = h
+
+pub limits_more : (all : Given) (w : List ℕ) (s : Setting) → AreLimited all → IsSetting w s → AreLimited (put all s)
+limits_more all w (Seed n) h is = record { settings = h.settings; seed_upto = is.value.upto; some_state = h.some_state; states_upto = h.states_upto; workers_upto = h.workers_upto }
+limits_more all w (States n) h is = record { settings = h.settings; seed_upto = h.seed_upto; some_state = is.value.from; states_upto = is.value.upto; workers_upto = h.workers_upto }
+limits_more all w (Workers n) h is = record { settings = run_limits all.set w (Workers n) h.settings is; seed_upto = h.seed_upto; some_state = h.some_state; states_upto = h.states_upto; workers_upto = is.value.upto }
+limits_more all w s h is = record { settings = run_limits all.set w s h.settings is; seed_upto = h.seed_upto; some_state = h.some_state; states_upto = h.states_upto; workers_upto = h.workers_upto }

@@ -1,12 +1,12 @@
 //! The command that the words are.
 
 ghost use Rattle.pay_words.specs.Command.{HasLimits, IsCall, IsCommand, IsMisfit, Request, file_count, files_in, request_of, word_of, words_in};
-ghost use Rattle.pay_words.specs.Options.{AreWithinLimits, IsDiscount, usual_settings};
+ghost use Rattle.pay_words.specs.Options.{AreLimited, IsDiscount, usual_settings};
 ghost use Rattle.pay_words.specs.declared.options.Settings.{Settings};
 ghost use Rattle.pay_words.specs.declared.options.Verb.{Verb};
 ghost use Rattle.std.specs.Prelude.{◌+◌, ◌<◌, ◌^◌, ◌≡◌, ◌↔◌, ◌∷◌, ◌++◌, ℕ, Contains, IfErr, IfNone, IfOk, IfSome, IsErrAnd, IsOkAnd, IsPermutation, List, [], codes, drop, length, take};
 
-use crate::options::{Settings, Verb, settings_of};
+use crate::options::{Given, Settings, Verb, settings_of};
 use pay_frac::Frac;
 
 /// What the words ask for.
@@ -22,6 +22,18 @@ pub enum Command<'w> {
         file: &'w str,
         corr: &'w str,
         discount: Frac,
+    },
+    /// The run of a game by a schedule, `replay FILE SCHEDULE [name=value ..]`.
+    Replay {
+        file: &'w str,
+        schedule: &'w str,
+        set: Settings,
+    },
+    /// The run of a game that is made from a number, `make seed=N [states=N] [workers=N]`.
+    Make {
+        seed: u32,
+        states: u32,
+        workers: u32,
     },
 }
 
@@ -56,6 +68,8 @@ fn verb_of(name: &str) -> Option<Verb>
     match name {
         "solve" => Some(Verb::Solve),
         "check" => Some(Verb::Check),
+        "replay" => Some(Verb::Replay),
+        "make" => Some(Verb::Make),
         _ => None,
     }
 }
@@ -75,7 +89,12 @@ fn call_of<'w>(verb: Verb, words: &'w [String]) -> Result<Command<'w>, UsageFaul
         });
     }
     match settings_of(verb, &words[head..]) {
-        Ok(set) => Ok(made(verb, words, set)),
+        Ok(given) => match made(verb, words, given) {
+            Some(command) => Ok(command),
+            None => Err(UsageFault {
+                index: words.len() as u32,
+            }),
+        },
         Err(place) => Err(UsageFault {
             index: (head + place) as u32,
         }),
@@ -89,27 +108,41 @@ fn count_files(verb: Verb) -> usize
     match verb {
         Verb::Solve => 1,
         Verb::Check => 2,
+        Verb::Replay => 2,
+        Verb::Make => 0,
     }
 }
 
-/// The command of these words, which give these settings.
-fn made<'w>(verb: Verb, words: &'w [String], set: Settings) -> Command<'w>
-    requires call { IsCall verb (words_in words.now) (files_in verb (words_in words.now)) set }
+/// The command of these words, which give this, or nothing where a game is to be made from no number.
+fn made<'w>(verb: Verb, words: &'w [String], given: Given) -> Option<Command<'w>>
+    requires call { (call : IsCall verb (words_in words.now) (files_in verb (words_in words.now)) given.set) ×
+        (call.seed ≡ given.seed) × (call.states ≡ given.states) }
     requires files { file_count verb < length words.now }
-    requires limits { AreWithinLimits set }
-    ensures command { IsCommand (words_in words.now) (request_of result) }
-    ensures limits { HasLimits result }
+    requires limits { AreLimited given }
+    ensures command { IfSome result (λ c. IsCommand (words_in words.now) (request_of c)) }
+    ensures limits { IfSome result HasLimits }
+    ensures misfit { IfNone result (IsMisfit (words_in words.now) (length words.now)) }
 {
     match verb {
-        Verb::Solve => Command::Solve {
+        Verb::Solve => Some(Command::Solve {
             file: &words[1],
-            set,
-        },
-        Verb::Check => Command::Check {
+            set: given.set,
+        }),
+        Verb::Check => Some(Command::Check {
             file: &words[1],
             corr: &words[2],
-            discount: set.discount,
-        },
+            discount: given.set.discount,
+        }),
+        Verb::Replay => Some(Command::Replay {
+            file: &words[1],
+            schedule: &words[2],
+            set: given.set,
+        }),
+        Verb::Make => Some(Command::Make {
+            seed: given.seed?,
+            states: given.states,
+            workers: given.set.workers,
+        }),
     }
 }
 
@@ -130,6 +163,7 @@ pub fn command_laws()
     ensures no_words { IsMisfit [] 0 }
     ensures command_alone { (verb : Verb) → IsMisfit (word_of verb ∷ []) 1 }
     ensures check_one_file { (file : List ℕ) → IsMisfit (codes "check" ∷ file ∷ []) 2 }
+    ensures replay_one_file { (file : List ℕ) → IsMisfit (codes "replay" ∷ file ∷ []) 2 }
     ensures files_alone { (verb : Verb) (files : List (List ℕ)) →
         IsCall verb (word_of verb ∷ files) files usual_settings }
 {}

@@ -1,7 +1,7 @@
 //! The words `name=value`.
 
 ghost use Rattle.pay_words.specs.Command.{words_in};
-ghost use Rattle.pay_words.specs.Options.{AreOptions, AreSettings, AreWithinLimits, Holds, IsDirections, IsDiscount, IsFirstWrong, IsSetting, IsValue, IsWithin, name_in, name_of, takes, usual_settings, with_setting};
+ghost use Rattle.pay_words.specs.Options.{AreLimited, AreOptions, AreSettings, Holds, IsDirections, IsDiscount, IsFirstWrong, IsSetting, IsValue, IsWithin, name_in, name_of, put, takes, usual_given, usual_settings, with_setting};
 ghost use Rattle.pay_frac.specs.Ratio.{Ratio};
 ghost use Rattle.std.specs.Prelude.{◌+◌, ◌++◌, ◌<◌, ◌≤◌, ◌^◌, ◌↔◌, ◌≡◌, ◌≢◌, ◌∷◌, ℕ, All, Any, IfErr, IfNone, IfOk, IfSome, IsTrue, List, length};
 
@@ -11,7 +11,7 @@ use pay_frac::{Frac, read_digits, read_number};
 pub const MOST_WORKERS: u32 = 16;
 
 /// The largest fineness of the inner sets, of which there are none at 0.
-pub const MOST_INNER: u32 = 0;
+pub const MOST_INNER: u32 = 16;
 
 /// The largest budget.
 const MOST_BUDGET: u64 = 1_000_000_000_000_000;
@@ -22,11 +22,19 @@ const MOST_GRID: u32 = 30;
 /// The largest slack.
 const MOST_SLACK: u64 = 1_000_000_000;
 
+/// The largest number from which a game is made.
+const MOST_SEED: u32 = 2_147_483_647;
+
+/// The most states of a game that is made.
+const MOST_STATES: u32 = 64;
+
 /// The commands, each of which has some of the settings.
 #[derive(Clone, Copy, Debug, PartialEq, Eq)]
 pub enum Verb {
     Solve,
     Check,
+    Replay,
+    Make,
 }
 
 /// What a run is asked for.
@@ -48,6 +56,17 @@ pub struct Settings {
     pub inner: Option<u32>,
 }
 
+/// What words give: the settings of a run, and the seed and the number of states of a game that is made.
+#[derive(Clone, Copy, Debug, PartialEq, Eq)]
+pub struct Given {
+    /// The settings of a run.
+    pub set: Settings,
+    /// The number from which a game is made, where a word says it, below 2^31.
+    pub seed: Option<u32>,
+    /// The number of states of a game that is made, from 1 to 64.
+    pub states: u32,
+}
+
 /// What one word sets.
 #[derive(Clone, Copy, Debug, PartialEq, Eq)]
 pub enum Setting {
@@ -58,6 +77,8 @@ pub enum Setting {
     Grid(u32),
     Slack(u64),
     Inner(u32),
+    Seed(u32),
+    States(u32),
 }
 
 impl Verb {
@@ -66,8 +87,16 @@ impl Verb {
         ensures { result ≡ takes self setting.now }
     {
         match self {
-            Verb::Solve => true,
+            Verb::Solve => !matches!(setting, Setting::Seed(_) | Setting::States(_)),
             Verb::Check => matches!(setting, Setting::Discount(_)),
+            Verb::Replay => matches!(
+                setting,
+                Setting::Discount(_) | Setting::Directions(_) | Setting::Grid(_)
+            ),
+            Verb::Make => matches!(
+                setting,
+                Setting::Seed(_) | Setting::States(_) | Setting::Workers(_)
+            ),
         }
     }
 }
@@ -75,8 +104,7 @@ impl Verb {
 impl Settings {
     /// The settings where no word says otherwise.
     fn usual() -> Settings
-        ensures usual { result ≡ usual_settings }
-        ensures limits { AreWithinLimits result }
+        ensures { result ≡ usual_settings }
     {
         Settings {
             discount: Frac::of(9, 10),
@@ -107,26 +135,58 @@ impl Settings {
                 inner: Some(fineness),
                 ..self
             },
+            Setting::Seed(_) | Setting::States(_) => self,
         }
     }
 }
 
-/// The settings that the words give a command, or the place of the first word that is no setting of it or repeats a
+impl Given {
+    /// What no words give.
+    fn usual() -> Given
+        ensures usual { result ≡ usual_given }
+        ensures limits { AreLimited result }
+    {
+        Given {
+            set: Settings::usual(),
+            seed: None,
+            states: 8,
+        }
+    }
+
+    /// The same with one setting put in its place.
+    fn with(self, setting: Setting) -> Given
+        ensures { result ≡ put self setting }
+    {
+        match setting {
+            Setting::Seed(seed) => Given {
+                seed: Some(seed),
+                ..self
+            },
+            Setting::States(states) => Given { states, ..self },
+            _ => Given {
+                set: self.set.with(setting),
+                ..self
+            },
+        }
+    }
+}
+
+/// What the words give a command, or the place of the first word that is no setting of it or repeats a
 /// name.
-pub fn settings_of(verb: Verb, words: &[String]) -> Result<Settings, usize>
+pub fn settings_of(verb: Verb, words: &[String]) -> Result<Given, usize>
     ensures options { IfOk result (λ _. AreOptions verb (words_in words.now)) }
     ensures settings { IfOk result (AreSettings (words_in words.now)) }
-    ensures limits { IfOk result AreWithinLimits }
+    ensures limits { IfOk result AreLimited }
     ensures wrong { IfErr result (IsFirstWrong verb (words_in words.now)) }
 {
-    let mut set = Settings::usual();
+    let mut given = Given::usual();
     for place in 0..words.len() {
         match new_setting(verb, &words[..place], &words[place]) {
-            Some(setting) => set = set.with(setting),
+            Some(setting) => given = given.with(setting),
             None => return Err(place),
         }
     }
-    Ok(set)
+    Ok(given)
 }
 
 /// The setting that a word spells, where the command takes it and no earlier word has its name.
@@ -192,6 +252,8 @@ fn value_of(name: &str, value: &[u8]) -> Option<Setting>
         "grid" => Some(Setting::Grid(read_small(value, 0, MOST_GRID)?)),
         "slack" => Some(Setting::Slack(read_within(value, 1, MOST_SLACK)?)),
         "inner" => Some(Setting::Inner(read_small(value, 0, MOST_INNER)?)),
+        "seed" => Some(Setting::Seed(read_small(value, 0, MOST_SEED)?)),
+        "states" => Some(Setting::States(read_small(value, 1, MOST_STATES)?)),
         _ => None,
     }
 }

@@ -34,13 +34,36 @@ fn misfits(rt: HostRuntime) -> Result<(), Fail> {
         ("solve pd.nfg budget=1=1", 2),
         ("solve pd.nfg directions=6", 2),
         ("solve pd.nfg inner=0 directions=16 inner=1", 4),
-        ("solve pd.nfg inner=1 inner=1", 2),
-        ("replay", 0),
+        ("solve pd.nfg inner=17", 2),
+        ("solve pd.nfg inner=17 inner=1", 2),
+        ("solve pd.nfg inner=1 inner=1", 3),
         ("check", 1),
         ("check pd.nfg", 2),
         ("check pd.nfg pd.sgc grid=4", 3),
         ("check pd.nfg pd.sgc discount=1/2 discount=1/2", 4),
         ("check pd.nfg pd.sgc pd.sgc", 3),
+        ("replays pd.nfg pd.sch", 0),
+        ("replay", 1),
+        ("replay pd.nfg", 2),
+        ("replay pd.nfg pd.sch directions=4 workers=2", 4),
+        ("replay pd.nfg pd.sch budget=1", 3),
+        ("replay pd.nfg pd.sch slack=1", 3),
+        ("replay pd.nfg pd.sch inner=0", 3),
+        ("solve pd.nfg seed=1", 2),
+        ("solve pd.nfg states=8", 2),
+        ("make", 1),
+        ("make states=8", 2),
+        ("make workers=2 states=8", 3),
+        ("make workers=2 states=0", 2),
+        ("make states=65 seed=1", 1),
+        ("make seed=2147483648", 1),
+        ("make seed=", 1),
+        ("make seed=1 seed=1", 2),
+        ("make seed=1 workers=17", 2),
+        ("make seed=1 workers=0", 2),
+        ("make pd.nfg seed=1", 1),
+        ("make seed=1 grid=4", 2),
+        ("make seed=1 discount=1/2", 2),
     ] {
         let words = words_of(rt.alloc(), line)?;
         assert!(rt; words.len() < 100);
@@ -93,6 +116,16 @@ fn commands(rt: HostRuntime) -> Result<(), Fail> {
             1_000_000_000,
             Some(0),
         ),
+        (
+            "solve pd.nfg inner=16 directions=32 grid=0",
+            (9, 10),
+            Some(32),
+            2,
+            1_000_000,
+            0,
+            1,
+            Some(16),
+        ),
     ] {
         let words = words_of(rt.alloc(), line)?;
         assert!(rt; words.len() < 100);
@@ -111,6 +144,75 @@ fn commands(rt: HostRuntime) -> Result<(), Fail> {
             Ok(_) => assert!(rt; false, "another command than {line}"),
             Err(fault) => assert!(rt; false, "word {} of {line}", fault.index),
         }
+    }
+    Ok(())
+}
+
+#[test]
+fn two_files(rt: HostRuntime) -> Result<(), Fail> {
+    for (line, discount, directions, grid) in [
+        ("replay pd.nfg pd.sch", (9, 10), None, 16),
+        ("replay pd.nfg pd.sch grid=4 discount=1/2", (1, 2), None, 4),
+        ("replay pd.nfg pd.sch directions=4", (9, 10), Some(4), 16),
+    ] {
+        let words = words_of(rt.alloc(), line)?;
+        assert!(rt; words.len() < 100);
+        match command_of(&words) {
+            Ok(
+                Command::Replay {
+                    file,
+                    schedule,
+                    set,
+                },
+            ) => {
+                assert_eq!(rt; file, "pd.nfg", "{line}");
+                assert_eq!(rt; schedule, "pd.sch", "{line}");
+                assert_eq!(rt; set.discount.num(), discount.0, "{line}");
+                assert_eq!(rt; set.discount.den(), discount.1, "{line}");
+                assert_eq!(rt; set.directions, directions, "{line}");
+                assert_eq!(rt; set.grid, grid, "{line}");
+                assert_eq!(rt; set.workers, 2, "{line}");
+            }
+            _ => assert!(rt; false, "another answer to {line}"),
+        }
+    }
+    for line in ["check pd.nfg pd.sgc", "check pd.nfg pd.sgc discount=.5"] {
+        let words = words_of(rt.alloc(), line)?;
+        assert!(rt; words.len() < 100);
+        match command_of(&words) {
+            Ok(Command::Check { file, corr, .. }) => {
+                assert_eq!(rt; file, "pd.nfg", "{line}");
+                assert_eq!(rt; corr, "pd.sgc", "{line}");
+            }
+            _ => assert!(rt; false, "another answer to {line}"),
+        }
+    }
+    Ok(())
+}
+
+#[test]
+fn seeds(rt: HostRuntime) -> Result<(), Fail> {
+    for (line, game) in [
+        ("make seed=1", (1, 8, 2)),
+        ("make seed=0 workers=4", (0, 8, 4)),
+        (
+            "make workers=16 seed=2147483647 states=64",
+            (2_147_483_647, 64, 16),
+        ),
+        ("make states=01 workers=01 seed=007", (7, 1, 1)),
+    ] {
+        let words = words_of(rt.alloc(), line)?;
+        assert!(rt; words.len() < 100);
+        let (seed, states, workers) = game;
+        assert_eq!(rt;
+            command_of(&words),
+            Ok(Command::Make {
+                seed,
+                states,
+                workers
+            }),
+            "{line}"
+        );
     }
     Ok(())
 }

@@ -11,5 +11,6 @@ returns c = record {
   no_words = lemmas.no_words;
   command_alone = lemmas.command_alone;
   check_one_file = lemmas.check_one_file;
+  replay_one_file = lemmas.replay_one_file;
   files_alone = lemmas.files_alone;
 }
