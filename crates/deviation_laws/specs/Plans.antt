@@ -1,7 +1,7 @@
 -- Plans of deviations of one player, and what they are worth to the player. The other players follow the entries.
-use Rattle.std.specs.Prelude.{ℕ, suc, max, ◌-◌, ◌*◌, ◌<◌, List, [], ◌∷◌, slice_index, nat_eq, if◌then◌else◌, pos, ◌*ℤ◌}
-use Rattle.game_model.specs.Game.{DynamicGame, counts, payoff_at, successor, strategy_at, deviation_at}
-use Rattle.game_model.specs.SelfGeneration.{Correspondence, Entry, entry_at, part, total_weight, punishment, profile_of}
+use Rattle.std.specs.Prelude.{ℕ, suc, max, ◌-◌, ◌*◌, ◌<◌, List, [], ◌∷◌, length, slice_index, nat_eq, if◌then◌else◌, ℤ, pos, ◌*ℤ◌, ◌≤ℤ◌, ◌<ℤ◌}
+use Rattle.game_model.specs.Game.{DynamicGame, states, counts, payoff_at, successor, strategy_at, deviation_at}
+use Rattle.game_model.specs.SelfGeneration.{Correspondence, Entry, entries_of, entry_at, part, total_weight, punishment, profile_of}
 use Rattle.deviation_laws.specs.declared.plan.DevPlan.{DevPlan, Stop, Play', Row_of-DevPlan, end_of-DevPlan, more_of-DevPlan}
 use Rattle.deviation_laws.specs.Fractions.{Fraction, whole, plus, times, divided_by}
 
@@ -54,3 +54,12 @@ abbrev mutual
   pub greatest_depth : {m : _} → Row_of-DevPlan m → ℕ
   greatest_depth end_of-DevPlan = 0
   greatest_depth (more_of-DevPlan plan plans) = max (depth_of plan) (greatest_depth plans)
+
+-- a fraction over a positive denominator that is at most x
+pub record IsAtMostPart (f : Fraction) (x : ℤ) : Type 0 where
+  pub positive : pos 0 <ℤ f.den
+  pub at_most : f.num ≤ℤ (x *ℤ f.den)
+
+-- Whatever plan fits at whatever entry, for whichever player: its worth is at most the player's part of the entry.
+abbrev pub NoPlanGains : DynamicGame → Correspondence → Type 0
+NoPlanGains g c = (i s k : ℕ) (plan : DevPlan) → i < g.players → s < states g → k < length (entries_of c s) → Fits g c i s k plan → IsAtMostPart (worth g c i s k plan) (part (entry_at c s k).point i)

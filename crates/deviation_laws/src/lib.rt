@@ -9,7 +9,7 @@ mod plan;
 
 pub use fitting::fits;
 pub use gains::{GainBeyond, gain, plays_at_most};
-pub use laws::no_gain;
+pub use laws::{no_gain, no_plan_gains};
 pub use plan::DevPlan;
 
 #[cfg(test)]
