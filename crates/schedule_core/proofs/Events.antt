@@ -110,10 +110,11 @@ note_valid c note frame ok new = record {
   named = λ id v at owner r below e. named_more c.notes note (r / c.frame.start.directions) (ok.named id v at owner r below e);
 }
 
-still_works : (c : Core) (w u r : ℕ) → IsWorking c w → IsWorking c u → IsWorking (loaded c w r) u
-still_works c w u r works h = record {
-  there = omega (arith, length-set c.readers w (sees (reader_at c w) r (word_in c r)), h.there);
-  works = each_got c.readers w (sees (reader_at c w) r (word_in c r)) _ works.there works.works u h.works;
+-- whoever works still does after one has seen another level
+pub works_after : (c d : Core) (w u r : ℕ) (l : Level) → d.readers ≡ set c.readers w (sees (reader_at c w) r l) → IsWorking c w → IsWorking c u → IsWorking d u
+works_after c d w u r l is works h = record {
+  there = omega (arith, ap length is, length-set c.readers w (sees (reader_at c w) r l), h.there);
+  works = ap (λ (vs : List Reader). (get_or vs u core.no_reader).ended) is ∙ each_got c.readers w (sees (reader_at c w) r l) _ works.there works.works u h.works;
 }
   where
     each_got : (l : List Reader) (i : ℕ) (a d : Reader) → i < length l → a.ended ≡ false → (j : ℕ) → (get_or l j d).ended ≡ false → (get_or (set l i a) j d).ended ≡ false
@@ -122,6 +123,9 @@ still_works c w u r works h = record {
     each_got (x ∷ xs) zero a d h e (suc j) k = k
     each_got (x ∷ xs) (suc i) a d h e zero k = k
     each_got (x ∷ xs) (suc i) a d h e (suc j) k = each_got xs i a d (omega arith) e j k
+
+still_works : (c : Core) (w u r : ℕ) → IsWorking c w → IsWorking c u → IsWorking (loaded c w r) u
+still_works c w u r works h = works_after c (loaded c w r) w u r (word_in c r) refl works h
 
 pub split_valid : (c : Core) (w : ℕ) → IsFrame c.frame → IsValid c → IsWorking c w → IsValid (split c w)
 split_valid c w frame ok works =

@@ -3,6 +3,8 @@ pub mod Kept
 pub mod Levels
 pub mod Lists
 pub mod Opening
+pub mod Replays
 pub mod Room
 pub mod Runs
+pub mod Schedules
 pub mod Words

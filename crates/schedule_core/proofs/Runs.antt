@@ -27,7 +27,7 @@ run_good : (c : Core) (acts : List Act) → IsGood c → MayRun c acts → IsGoo
 run_good c [] ok may = ok
 run_good c (a ∷ acts) ok may = run_good (acted c a) acts (act_good c a ok may.0) may.1
 
-all_bound : (c : Core) → IsFrame c.frame → IsValid c → AllBound c
+pub all_bound : (c : Core) → IsFrame c.frame → IsValid c → AllBound c
 all_bound c frame ok =
     let words = λ (r : ℕ) (below : r < rows_of c.frame). (ok.words.sound r below).above in
     let seen = λ (w r : ℕ) (works : IsWorking c w) (below : r < rows_of c.frame). ((ok.words.fits w (reader_at c w) (at_worker c w works) works.works).seen.sound r below).above in

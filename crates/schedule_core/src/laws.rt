@@ -1,6 +1,6 @@
 //! The laws of the core. Each is the contract of a function that does nothing.
 
-ghost use Rattle.std.specs.Prelude.{◌≡◌, ℕ, List, [], ◌<◌};
+ghost use Rattle.std.specs.Prelude.{◌≡◌, ℕ, ◌+◌, ◌<◌, All, List, []};
 ghost use Rattle.level_table.specs.Problem.{IsProblem};
 ghost use Rattle.game_model.specs.Game.{DynamicGame, states};
 ghost use Rattle.level_table.specs.declared.reason.Note.{Note};
@@ -11,6 +11,9 @@ ghost use Rattle.schedule_core.specs.Frame.{Frame, IsFrame, IsNoteOver, IsOpened
 ghost use Rattle.schedule_core.specs.Core.{Core, IsValid, IsWorking, MayHappen, joined, noted, seen_by, split, stepped};
 ghost use Rattle.schedule_core.specs.Room.{HasRoom};
 ghost use Rattle.schedule_core.specs.Runs.{Act, AllBound, MayRun, after, started};
+ghost use Rattle.schedule_core.specs.declared.moves.Move.{Move};
+ghost use Rattle.schedule_core.specs.Replays.{Agree, IsReplay};
+ghost use Rattle.schedule_core.specs.Schedules.{FitsMove};
 
 /// The opening table without notes is one from which a run may start.
 pub fn opening_is_opened()
@@ -47,4 +50,17 @@ pub fn runs_keep_supported_tables()
         → IsFrame f → IsOpened f notes → MayRun (started f n notes) acts → IsValid (after (started f n notes) acts) }
     ensures bound { (f : Frame) (n : ℕ) (notes : List Note) (acts : List Act)
         → IsFrame f → IsOpened f notes → MayRun (started f n notes) acts → AllBound (after (started f n notes) acts) }
+{}
+
+/// Replays of the same moves from one start have the same words, the same seen levels, and notes of the same states.
+pub fn replays_agree()
+    ensures { (f : Frame) (n : ℕ) (notes : List Note) (moves : List Move) (c d : Core)
+        → IsReplay (started f n notes) moves c → IsReplay (started f n notes) moves d → Agree c d }
+{}
+
+/// A replay is a run: the moves make a list of events and notes, each of which may be where it stands.
+pub fn replays_are_runs()
+    ensures { (f : Frame) (n : ℕ) (notes : List Note) (moves : List Move) (c : Core)
+        → All (FitsMove (n + 1) (rows_of f)) moves → IsReplay (started f n notes) moves c
+        → (acts : List Act) × MayRun (started f n notes) acts × (c ≡ after (started f n notes) acts) }
 {}
