@@ -118,6 +118,7 @@ impl Notes {
         requires few { length self.old.list + self.old.spare < 2 ^ 32 - 1 }
         ensures ok { OnOk result (self.new.list ≡ self.old.list ++ note ∷ []) }
         ensures err { OnErr result (self.new.list ≡ self.old.list) }
+        ensures spare { self.new.spare ≤ self.old.spare }
     {
         let _spare = self.lists.pop();
         self.notes.push(note)?;

@@ -5,7 +5,8 @@ use Rattle.std.proofs.Math.Nat.{mul-div_cancel}
 use Rattle.std.proofs.lemmas.Int.{ints, unsigned_abs-mul}
 use Rattle.pay_frac.specs.Ratio.{Ratio, IsLowest, Equals}
 use Rattle.pay_frac.proofs.Coprime.{lowest_den}
-use Rattle.report_text.specs.ReportText.{ratio_word, IsFractionWord}
+use Rattle.report_lines.specs.Spelled.{ratio_word}
+use Rattle.report_text.specs.ReportText.{IsFractionWord}
 
 abs_cross : (r : Ratio) (num den : ℤ) → Equals r num den → unsigned_abs r.num * unsigned_abs den ≡ unsigned_abs num * unsigned_abs r.den
 abs_cross r num den e = sym (unsigned_abs-mul r.num den) ∙ ap unsigned_abs e ∙ unsigned_abs-mul num r.den

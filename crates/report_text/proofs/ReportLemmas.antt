@@ -10,7 +10,7 @@ use Rattle.set_operator.specs.declared.row.Verdict.{Verdict}
 use Rattle.report_text.specs.declared.report.Report.{Report}
 use Rattle.level_table.specs.declared.reason.Item.{Item}
 use Rattle.report_text.specs.Pieces.{sizes_text, counts_text}
-use Rattle.report_text.specs.ReportText.{word_at, blanked, item_words, items_words, notes_text, line, texts_below, status_word, rows_of, row_line, row_words, discount_at, AreEqual, AreTexts, IsFractionWord, AreFractionWords, AreDiscountWords, IsHead, IsPointLine, IsVerdictText, IsReportText}
+use Rattle.report_text.specs.ReportText.{word_at, blanked, item_words, items_words, notes_text, line, texts_below, status_word, rows_of, row_line, row_words, discount_at, AreEqual, AreTexts, AreSetTexts, IsFractionWord, AreFractionWords, AreDiscountWords, IsHead, IsPointLine, IsVerdictText, IsReportText}
 
 pub blanked-append : (vs ws : List (List ℕ)) → blanked (vs ++ ws) ≡ blanked vs ++ blanked ws
 blanked-append [] ws = refl
@@ -79,13 +79,15 @@ pub line_from_words : (o x1 x2 x3 name : List ℕ) (words : List (List ℕ)) →
 line_from_words o x1 x2 x3 name words e1 e2 e3 = e3 ∙ ap (λ t. t ++ 10 ∷ []) (e2 ∙ ap (λ t. t ++ blanked words) e1) ∙ assoc_line o name (blanked words)
 
 -- the text of a report from its parts
-pub report_from_parts : (r : Report) (x1 x2 x3 x4 x5 head verdict : List ℕ) → IsHead r head → IsVerdictText r r.verdict verdict → x1 ≡ head → x2 ≡ x1 ++ texts_below (row_line r) (rows_of r) → x3 ≡ x2 ++ verdict → x4 ≡ x3 ++ notes_text r.notes.list → x5 ≡ x4 ++ line (codes "end") [] → IsReportText r x5
-report_from_parts r x1 x2 x3 x4 x5 head verdict h v e1 e2 e3 e4 e5 = record {
+pub report_from_parts : (r : Report) (x1 x2 x3 x4 x5 x6 head verdict sets : List ℕ) → IsHead r head → IsVerdictText r r.verdict verdict → AreSetTexts r r.inner sets → x1 ≡ head → x2 ≡ x1 ++ texts_below (row_line r) (rows_of r) → x3 ≡ x2 ++ verdict → x4 ≡ x3 ++ notes_text r.notes.list → x5 ≡ x4 ++ sets → x6 ≡ x5 ++ line (codes "end") [] → IsReportText r x6
+report_from_parts r x1 x2 x3 x4 x5 x6 head verdict sets h v s e1 e2 e3 e4 e5 e6 = record {
   head = head;
   verdict = verdict;
+  sets = sets;
   is_head = h;
   is_verdict = v;
-  parts = e5 ∙ ap (λ t. t ++ line (codes "end") []) (e4 ∙ ap (λ t. t ++ notes_text r.notes.list) (e3 ∙ ap (λ t. t ++ verdict) (e2 ∙ ap (λ t. t ++ texts_below (row_line r) (rows_of r)) e1)));
+  are_sets = s;
+  parts = e6 ∙ ap (λ t. t ++ line (codes "end") []) (e5 ∙ ap (λ t. t ++ sets) (e4 ∙ ap (λ t. t ++ notes_text r.notes.list) (e3 ∙ ap (λ t. t ++ verdict) (e2 ∙ ap (λ t. t ++ texts_below (row_line r) (rows_of r)) e1))));
 }
 
 items_words-push : (xs : List Item) (x : Item) → items_words (xs ++ x ∷ []) ≡ items_words xs ++ item_words x

@@ -1,2 +1,5 @@
 pub mod Pieces
+pub mod Reading
+pub mod ReplayText
 pub mod ReportText
+pub mod Rules

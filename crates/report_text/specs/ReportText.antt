@@ -1,5 +1,5 @@
 -- The text of a report: lines of words with one blank between them, each ended by a line feed.
-use Rattle.std.specs.Prelude.{◌≡◌, ◌⊎◌, ℕ, zero, suc, ◌*◌, ◌/◌, ◌%◌, ◌^◌, ◌<◌, ◌≤◌, ◌++◌, List, [], ◌∷◌, length, slice_index_or, All, codes, decimal, Option, Some, None, if◌then◌else◌, ℤ, pos, ◌<ℤ◌}
+use Rattle.std.specs.Prelude.{◌≡◌, ◌⊎◌, ℕ, zero, suc, ◌*◌, ◌/◌, ◌%◌, ◌^◌, ◌<◌, ◌≤◌, ◌++◌, List, [], ◌∷◌, length, map, slice_index, slice_index_or, All, codes, decimal, Option, Some, None, if◌then◌else◌, ℤ, pos, ◌<ℤ◌}
 use Rattle.std.specs.Fmt.{signed_decimal}
 use Rattle.std.specs.Ordering.{int_eq}
 use Rattle.std.specs.Int.RustNames.{unsigned_abs}
@@ -13,11 +13,13 @@ use Rattle.level_table.specs.declared.reason.Reason.TheVariants as reasons
 use Rattle.level_table.specs.declared.reason.Note.{Note}
 use Rattle.level_table.specs.Levels.{level_at}
 use Rattle.level_table.specs.Notes.{no_note}
-use Rattle.game_model.specs.SelfGeneration.{part}
+use Rattle.game_model.specs.SelfGeneration.{Entry, no_entry, part}
+use Rattle.selfgen_check.specs.Promises.{Promises}
 use Rattle.level_table.specs.Reasons.{reason_at}
 use Rattle.set_operator.specs.declared.row.Support.{Support}
 use Rattle.set_operator.specs.declared.row.Verdict.{Verdict}
 use Rattle.set_operator.specs.declared.row.Verdict.TheVariants.{Supported, Unsupported}
+use Rattle.report_lines.specs.Spelled.{ratio_word}
 use Rattle.report_text.specs.declared.report.Report.{Report}
 
 -- a blank before each word
@@ -34,16 +36,17 @@ abbrev pub texts_below : (ℕ → List ℕ) → ℕ → List ℕ
 texts_below f zero = []
 texts_below f (suc n) = texts_below f n ++ f n
 
+-- one text for each number below n, one after another
+abbrev pub AreTextsBelow : (ℕ → List ℕ → Type 0) → ℕ → List ℕ → Type 0
+AreTextsBelow P zero text = text ≡ []
+AreTextsBelow P (suc n) text = (before last : List ℕ) × AreTextsBelow P n before × P n last × (text ≡ before ++ last)
+
 -- one text for each item, in the order of the items
 abbrev pub AreTexts : {X : Type 0} → (X → List ℕ → Type 0) → List X → List ℕ → Type 0
 AreTexts P [] text = text ≡ []
 AreTexts P (x ∷ xs) text = (first rest : List ℕ) × P x first × AreTexts P xs rest × (text ≡ first ++ rest)
 
 -- ---- fractions
--- `n`, or `n/d` where d is not 1
-abbrev pub ratio_word : Ratio → List ℕ
-ratio_word r = if int_eq r.den (pos 1) then signed_decimal r.num else (signed_decimal r.num ++ 47 ∷ signed_decimal r.den)
-
 -- the word of num/den, which is that of the equal fraction in lowest terms
 pub record IsFractionWord (num den : ℤ) (w : List ℕ) : Type 0 where
   pub ratio : Ratio
@@ -155,17 +158,56 @@ note_text notes l =
 abbrev pub notes_text : List Note → List ℕ
 notes_text notes = texts_below (note_text notes) (length notes)
 
--- The text of the report: the head, one line for each row, the verdict, the notes, and the end.
+-- ---- the inner sets
+-- an entry of the state that follows, and its weight
+abbrev pub outcome_word : ℕ × ℕ → List ℕ
+outcome_word o = decimal o.0 ++ 58 ∷ decimal o.1
+
+-- the profile that is played, the outcomes that follow, and the entries that punish
+abbrev pub promise_words : ℕ → Entry → List (List ℕ)
+promise_words profile e =
+    codes "profile" ∷ decimal profile ∷ codes "lottery" ∷ (map outcome_word e.lottery ++ codes "punish" ∷ map decimal e.punish)
+
+abbrev pub set_at : Promises → ℕ → List Entry
+set_at c s = slice_index_or c.entries s []
+
+abbrev pub member : Promises → ℕ → ℕ → Entry
+member c s j = slice_index_or (set_at c s) j no_entry
+
+abbrev pub numbers_at : Report → ℕ → List ℕ
+numbers_at r s = slice_index_or r.numbers s []
+
+-- the point in the game's units, and the promise
+pub record IsEntryLine (r : Report) (c : Promises) (s j : ℕ) (text : List ℕ) : Type 0 where
+  pub parts : List (List ℕ)
+  pub are_parts : AreFractionWords r.players (part (member c s j).point) (λ i. pos c.common) parts
+  pub line_is : text ≡ line (codes "entry") (decimal s ∷ decimal j ∷ (parts ++ promise_words (slice_index (numbers_at r s) j) (member c s j)))
+
+-- the state with the number of its entries, and one line for each
+pub record IsSetText (r : Report) (c : Promises) (s : ℕ) (text : List ℕ) : Type 0 where
+  pub entries : List ℕ
+  pub are_entries : AreTextsBelow (IsEntryLine r c s) (length (set_at c s)) entries
+  pub text_is : text ≡ line (codes "set") (decimal s ∷ decimal (length (set_at c s)) ∷ []) ++ entries
+
+-- one set for each state, where there are sets
+abbrev pub AreSetTexts : Report → Option Promises → List ℕ → Type 0
+AreSetTexts r None text = text ≡ []
+AreSetTexts r (Some c) text = AreTextsBelow (IsSetText r c) r.states text
+
+-- The text of the report: the head, one line for each row, the verdict, the notes, the inner sets, and the end.
 pub record IsReportText (r : Report) (text : List ℕ) : Type 0 where
   pub head : List ℕ
   pub verdict : List ℕ
+  pub sets : List ℕ
   pub is_head : IsHead r head
   pub is_verdict : IsVerdictText r r.verdict verdict
+  pub are_sets : AreSetTexts r r.inner sets
   pub parts : text ≡
       head
       ++ texts_below (row_line r) (rows_of r)
       ++ verdict
       ++ notes_text r.notes.list
+      ++ sets
       ++ line (codes "end") []
 
 -- ---- what can be printed
@@ -178,6 +220,17 @@ abbrev pub IsPrintableVerdict : Report → Verdict → Type 0
 IsPrintableVerdict r (Supported supports) = All (λ s. (s.row < rows_of r) × IsFraction s.point.num s.point.den) supports
 IsPrintableVerdict r (Unsupported row level reached) = row < rows_of r
 
+-- Each state has a list of entries with one part for each player, and for each entry the number of its profile.
+pub record IsNumbered (r : Report) (c : Promises) : Type 0 where
+  pub positive : 0 < c.common
+  pub one_list_each : length c.entries ≡ r.states
+  pub one_number_each : (s : ℕ) → s < r.states → length (numbers_at r s) ≡ length (set_at c s)
+  pub one_part_each : (s j : ℕ) → s < r.states → j < length (set_at c s) → length (member c s j).point ≡ r.players
+
+abbrev pub IsPrintableSet : Report → Option Promises → Type 0
+IsPrintableSet r None = r.numbers ≡ []
+IsPrintableSet r (Some c) = (length r.numbers ≡ r.states) × IsNumbered r c
+
 pub record IsPrintable (r : Report) : Type 0 where
   pub some_player : 1 ≤ r.players
   pub few_players : r.players ≤ 3
@@ -186,3 +239,4 @@ pub record IsPrintable (r : Report) : Type 0 where
   pub states : r.levels.states ≡ r.states
   pub directions : r.levels.directions ≡ r.directions
   pub verdict : IsPrintableVerdict r r.verdict
+  pub sets : IsPrintableSet r r.inner

@@ -1,5 +1,6 @@
 use game_model::List;
 use level_table::{LevelTable, Notes};
+use selfgen_check::Corr;
 use set_operator::Verdict;
 
 /// What a run found.
@@ -18,4 +19,8 @@ pub struct Report {
     pub verdict: Verdict,
     /// Why states are empty, in the order in which they were found to be.
     pub notes: Notes,
+    /// The inner sets, one for each state, where they were asked for.
+    pub inner: Option<Corr>,
+    /// For each state the numbers of the profiles that its entries in `inner` play; nothing where `inner` is none.
+    pub numbers: List<List<u32>>,
 }

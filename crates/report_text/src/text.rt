@@ -1,13 +1,15 @@
 //! The text of a report.
 
 ghost use Rattle.game_model.specs.SelfGeneration.{part};
+ghost use Rattle.report_lines.specs.Spelled.{ratio_word};
 ghost use Rattle.report_text.specs.Pieces.{Appends, AppendsLine, AppendsWord, AppendsWords, counts_text, sizes_text};
-ghost use Rattle.report_text.specs.ReportText.{AreDiscountWords, AreEqual, AreFractionWords, AreTexts, IsFraction, IsFractionWord, IsHead, IsPointLine, IsPrintable, IsReportText, IsVerdictText, blanked, discount_at, item_words, items_words, level_word, line, note_text, notes_text, ratio_word, reached_word, reason_words, row_line, row_words, rows_of, status_word, texts_below, why_line};
+ghost use Rattle.report_text.specs.ReportText.{AreDiscountWords, AreEqual, AreFractionWords, AreTexts, IsFraction, IsFractionWord, IsHead, IsPointLine, IsPrintable, IsReportText, IsVerdictText, blanked, discount_at, item_words, items_words, level_word, line, note_text, notes_text, reached_word, reason_words, row_line, row_words, rows_of, status_word, texts_below, why_line};
 ghost use Rattle.std.specs.Fmt.{signed_decimal};
 ghost use Rattle.std.specs.Int.RustNames.{unsigned_abs};
 ghost use Rattle.std.specs.Prelude.{All, IfOk, IsTrue, List, OnOk, [], codes, decimal, length, pos, ◌++◌, ◌<ℤ◌, ◌<◌, ◌*◌, ◌^◌, ◌↔◌, ◌∷◌, ◌≡◌, ◌≤◌, ◌⊎◌, ℕ, ℤ};
 
 use crate::report::Report;
+use crate::sets::set_lines;
 use game_model::List;
 use itoa::{Buffer, Integer};
 use level_table::{Item, Items, Level, Notes, Reason, ReasonList};
@@ -22,9 +24,11 @@ use std::alloc::{AllocError, Global};
 /// `sweeps` and `solves`, which is sweeps times rows; then `row S K X` for each row, with the state, the
 /// direction and the level; then `point S K A Y0 Y1 ..` for each support, with the profile and the parts of
 /// the point, or `stop S K X V` for the row that has none, with its level and the reached value; then, for
-/// each note, `empty S` and one `why S A ..` for each profile; then `end`. Levels, parts and values are in
-/// units of `1/unit`. A fraction is `n` or `n/d` in lowest terms. One discount stands for all where they are
-/// equal. The text says nothing of the room that notes have for more.
+/// each note, `empty S` and one `why S A ..` for each profile; then, where there are inner sets, for each state `set S N`
+/// with the number of its entries and one `entry S J V0 V1 .. profile A lottery J:W .. punish J ..` for each; then `end`.
+/// Levels, values and the parts of supports are in units of `1/unit`, and V0, V1 .. in those of the game's payoffs. A
+/// fraction is `n` or `n/d` in lowest terms. One discount stands for all where they are equal. The text says nothing of
+/// the room that notes have for more.
 pub fn text_of(alloc: Global, report: &Report) -> Result<Vec<u8>, AllocError>
     requires { IsPrintable report.now }
     ensures { IfOk result (λ text. IsReportText report.now text.items) }
@@ -34,12 +38,13 @@ pub fn text_of(alloc: Global, report: &Report) -> Result<Vec<u8>, AllocError>
     row_lines(&mut out, report)?;
     verdict_lines(&mut out, report)?;
     note_lines(&mut out, &report.notes)?;
+    set_lines(&mut out, report)?;
     out.extend_from_slice(b"end\n")?;
     Ok(out)
 }
 
 /// A blank and a word.
-fn word(out: &mut Vec<u8>, bytes: &[u8]) -> Result<(), AllocError>
+pub(crate) fn word(out: &mut Vec<u8>, bytes: &[u8]) -> Result<(), AllocError>
     ensures { OnOk result (out.new.items ≡ out.old.items ++ 32 ∷ bytes.now) }
 {
     out.push(b' ')?;
@@ -47,7 +52,7 @@ fn word(out: &mut Vec<u8>, bytes: &[u8]) -> Result<(), AllocError>
 }
 
 /// A blank and a whole number.
-fn number<I: Integer>(out: &mut Vec<u8>, n: I) -> Result<(), AllocError>
+pub(crate) fn number<I: Integer>(out: &mut Vec<u8>, n: I) -> Result<(), AllocError>
     ensures { OnOk result (out.new.items ≡ out.old.items ++ 32 ∷ I.text n) }
 {
     word(out, Buffer::new().format(n).as_bytes())
@@ -66,7 +71,7 @@ fn ratio(out: &mut Vec<u8>, f: Frac) -> Result<(), AllocError>
 }
 
 /// A blank and `num / den` in lowest terms.
-fn fraction(out: &mut Vec<u8>, num: i128, den: i128) -> Result<(), AllocError>
+pub(crate) fn fraction(out: &mut Vec<u8>, num: i128, den: i128) -> Result<(), AllocError>
     requires positive { pos 0 <ℤ den }
     requires not_least { unsigned_abs num < 2 ^ 127 }
     ensures { OnOk result (AppendsWord (IsFractionWord num den) out.old.items out.new.items) }
@@ -75,7 +80,7 @@ fn fraction(out: &mut Vec<u8>, num: i128, den: i128) -> Result<(), AllocError>
 }
 
 /// A line of one word behind its name.
-fn word_line(out: &mut Vec<u8>, name: &[u8], value: &[u8]) -> Result<(), AllocError>
+pub(crate) fn word_line(out: &mut Vec<u8>, name: &[u8], value: &[u8]) -> Result<(), AllocError>
     ensures { OnOk result (out.new.items ≡ out.old.items ++ line name.now (value.now ∷ [])) }
 {
     out.extend_from_slice(name)?;
@@ -85,7 +90,11 @@ fn word_line(out: &mut Vec<u8>, name: &[u8], value: &[u8]) -> Result<(), AllocEr
 }
 
 /// A line of one whole number behind its name.
-fn number_line<I: Integer>(out: &mut Vec<u8>, name: &[u8], n: I) -> Result<(), AllocError>
+pub(crate) fn number_line<I: Integer>(
+    out: &mut Vec<u8>,
+    name: &[u8],
+    n: I,
+) -> Result<(), AllocError>
     ensures { OnOk result (out.new.items ≡ out.old.items ++ line name.now (I.text n ∷ [])) }
 {
     word_line(out, name, Buffer::new().format(n).as_bytes())
@@ -250,7 +259,7 @@ fn place(out: &mut Vec<u8>, report: &Report, row: u32) -> Result<(), AllocError>
 }
 
 /// A blank and a level.
-fn level(out: &mut Vec<u8>, level: Level) -> Result<(), AllocError>
+pub(crate) fn level(out: &mut Vec<u8>, level: Level) -> Result<(), AllocError>
     ensures { OnOk result (out.new.items ≡ out.old.items ++ 32 ∷ level_word level) }
 {
     match level {
@@ -349,7 +358,7 @@ fn reached_value(out: &mut Vec<u8>, reached: Option<Frac>) -> Result<(), AllocEr
 }
 
 /// The lines of the notes, in their order.
-fn note_lines(out: &mut Vec<u8>, notes: &Notes) -> Result<(), AllocError>
+pub(crate) fn note_lines(out: &mut Vec<u8>, notes: &Notes) -> Result<(), AllocError>
     ensures { OnOk result (out.new.items ≡ out.old.items ++ notes_text notes.now.list) }
 {
     for l in 0..notes.len() {
