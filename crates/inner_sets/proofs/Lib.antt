@@ -1,6 +1,8 @@
+pub mod Asks
 pub mod Choices
 pub mod Dilemma
 pub mod Gains
+pub mod Held
 pub mod Hulls
 pub mod Leasts
 pub mod Lists

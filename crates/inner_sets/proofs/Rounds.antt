@@ -39,7 +39,7 @@ nothing v (k, below, is) = omega arith
 record IsMoved (g : DynamicGame) (n : ℕ) (old : List (List Item)) (s : ℕ) (x : Item) : Type 0 where
   here : Contains (points_in (row_at old s)) x.point
   candidate : IsCandidate g n s x.point
-  failed : (b : ℕ) → b < x.profile → Meets g n (choice_of old) s b x.point → ⊥
+  failed : (b : ℕ) → b < x.profile → b < profile_count (counts g s) → Meets g n (choice_of old) s b x.point → ⊥
   passed : x.profile < profile_count (counts g s) → Meets g n (choice_of old) s x.profile x.point
 
 -- what is left in state s
@@ -52,21 +52,20 @@ record IsLeft (g : DynamicGame) (n : ℕ) (old : List (List Item)) (s : ℕ) (it
   stay : (k : ℕ) → k < length (row_at old s) → IsGiven g n (choice_of old) s (item_at (row_at old s) k).point → Contains (points_in items) (item_at (row_at old s) k).point
 
 module _ (g : DynamicGame) (n : ℕ) (ok : IsGame g) (two : g.players ≡ 2) (old : List (List Item)) (ys : List PointSummary) (open_rows : AreOpen g n old) (are : AreSummaries g (choice_of old) ys) where
-  one_moved : (s : ℕ) (moved : List Item) → s < states g → AreAdvanced g n ys s (row_at old s) moved → (k : ℕ) → k < length moved → IsMoved g n old s (item_at moved k)
+  one_moved : (s : ℕ) (moved : List Item) → s < states g → AreAdvanced g n ys s (profile_count (counts g s)) (row_at old s) moved → (k : ℕ) → k < length moved → IsMoved g n old s (item_at moved k)
   one_moved s moved state advanced k below =
       let inside : k < length (row_at old s) = omega (arith, advanced.same_length) in
       let x : Item = item_at (row_at old s) k in
       let y : Item = item_at moved k in
-      let step : IsAdvanced g n ys s x y = advanced.each k inside in
+      let step : IsAdvanced g n ys s (profile_count (counts g s)) x y = advanced.each k inside in
       let same : x.point ≡ y.point = sym step.point in
       let P : Item → Type 0 = λ (z : Item). (b : ℕ) → b < z.profile → Meets g n (choice_of old) s b z.point → ⊥ in
       let before : P x = open_rows.failed s state k no_item inside in
       record {
         here = subst (λ (v : List ℤ). Contains (points_in (row_at old s)) v) (point_in (row_at old s) k [] inside ∙ same) (Contains-get_or (points_in (row_at old s)) k [] (omega (arith, length-map (row_at old s) (λ (x : Item). x.point))));
         candidate = subst (λ (v : List ℤ). IsCandidate g n s v) same ((open_rows.each s state).candidates k no_item inside);
-        failed = λ b less meets.
+        failed = λ b less known meets.
             let back : Meets g n (choice_of old) s b x.point = subst (λ (v : List ℤ). Meets g n (choice_of old) s b v) (sym same) meets in
-            let known : b < profile_count (counts g s) = omega (arith, step.within) in
             ⊎_elim
             (λ (lt : b < x.profile). before b lt back)
             (λ (ge : x.profile ≤ b). step.failed b ge less (passes_from g n (choice_of old) ys ok two are s b state known x.point back))
@@ -75,11 +74,11 @@ module _ (g : DynamicGame) (n : ℕ) (ok : IsGame g) (two : g.players ≡ 2) (ol
             (meets_from g n (choice_of old) ys ok two are s y.profile state known x.point (step.passed known));
       }
 
-  all_moved : (s : ℕ) (moved : List Item) → s < states g → AreAdvanced g n ys s (row_at old s) moved → All (IsMoved g n old s) moved
+  all_moved : (s : ℕ) (moved : List Item) → s < states g → AreAdvanced g n ys s (profile_count (counts g s)) (row_at old s) moved → All (IsMoved g n old s) moved
   all_moved s moved state advanced = All-at (IsMoved g n old s) moved no_item (one_moved s moved state advanced)
 
   -- the points keep their order
-  still_ascending : (s : ℕ) (moved : List Item) → s < states g → AreAdvanced g n ys s (row_at old s) moved → AllPairs (λ (x y : Item). Precedes x.point y.point) moved
+  still_ascending : (s : ℕ) (moved : List Item) → s < states g → AreAdvanced g n ys s (profile_count (counts g s)) (row_at old s) moved → AllPairs (λ (x y : Item). Precedes x.point y.point) moved
   still_ascending s moved state advanced i j d less below =
       let inside : j < length (row_at old s) = omega (arith, advanced.same_length) in
       let other : i < length (row_at old s) = omega arith in
@@ -89,7 +88,7 @@ module _ (g : DynamicGame) (n : ℕ) (ok : IsGame g) (two : g.players ≡ 2) (ol
       subst (λ (v : List ℤ). Precedes v (get_or moved j d).point) e (subst (λ (w : List ℤ). Precedes (item_at (row_at old s) i).point w) f order)
 
   -- an item whose point is given stays
-  stays : (s : ℕ) (moved : List Item) → s < states g → AreAdvanced g n ys s (row_at old s) moved → (k : ℕ) → k < length (row_at old s) → IsGiven g n (choice_of old) s (item_at (row_at old s) k).point
+  stays : (s : ℕ) (moved : List Item) → s < states g → AreAdvanced g n ys s (profile_count (counts g s)) (row_at old s) moved → (k : ℕ) → k < length (row_at old s) → IsGiven g n (choice_of old) s (item_at (row_at old s) k).point
       → Contains (points_in (alive g s moved)) (item_at (row_at old s) k).point
   stays s moved state advanced k inside (a, known, meets) =
       let below : k < length moved = omega (arith, advanced.same_length) in
@@ -99,12 +98,12 @@ module _ (g : DynamicGame) (n : ℕ) (ok : IsGame g) (two : g.players ≡ 2) (ol
       let live : y.profile < profile_count (counts g s) =
       ⊎_elim
       (λ (lt : y.profile < profile_count (counts g s)). lt)
-      (λ (ge : profile_count (counts g s) ≤ y.profile). absurd (m.failed a (omega arith) (subst (λ (v : List ℤ). Meets g n (choice_of old) s a v) (sym same) meets)))
+      (λ (ge : profile_count (counts g s) ≤ y.profile). absurd (m.failed a (omega arith) known (subst (λ (v : List ℤ). Meets g n (choice_of old) s a v) (sym same) meets)))
       (cases_lt y.profile (profile_count (counts g s))) in
       let there : Contains (alive g s moved) y = Contains-filter (λ (x : Item). nat_lt x.profile (profile_count (counts g s))) moved y (Contains-get_or moved k no_item below) (lt-ltb y.profile (profile_count (counts g s)) live) in
       subst (λ (v : List ℤ). Contains (points_in (alive g s moved)) v) same (Contains-map (λ (x : Item). x.point) (alive g s moved) y there)
 
-  left_alive : (s : ℕ) (moved : List Item) → s < states g → AreAdvanced g n ys s (row_at old s) moved → IsLeft g n old s (alive g s moved)
+  left_alive : (s : ℕ) (moved : List Item) → s < states g → AreAdvanced g n ys s (profile_count (counts g s)) (row_at old s) moved → IsLeft g n old s (alive g s moved)
   left_alive s moved state advanced =
       record {
         all = All-filter (λ (x : Item). nat_lt x.profile (profile_count (counts g s))) (IsMoved g n old s) moved (all_moved s moved state advanced);
@@ -115,7 +114,7 @@ module _ (g : DynamicGame) (n : ℕ) (ok : IsGame g) (two : g.players ≡ 2) (ol
         stay = stays s moved state advanced;
       }
     where
-      same_points : (s : ℕ) (moved : List Item) → AreAdvanced g n ys s (row_at old s) moved → points_in moved ≡ points_in (row_at old s)
+      same_points : (s : ℕ) (moved : List Item) → AreAdvanced g n ys s (profile_count (counts g s)) (row_at old s) moved → points_in moved ≡ points_in (row_at old s)
       same_points s moved advanced = ext_get_or [] (points_in moved) (points_in (row_at old s))
           (length-map moved (λ (x : Item). x.point) ∙ (advanced.same_length ∙ sym (length-map (row_at old s) (λ (x : Item). x.point))))
           (λ k below.
@@ -127,6 +126,9 @@ module _ (g : DynamicGame) (n : ℕ) (ok : IsGame g) (two : g.players ≡ 2) (ol
     left : (s : ℕ) → s < states g → IsLeft g n old s (row_at new s)
     left s state =
         subst (λ (items : List Item). IsLeft g n old s items) (sym (refined.each s state).2) (left_alive s (refined.each s state).0 state (refined.each s state).1)
+
+    pub same_points_left : (s : ℕ) → s < states g → length (row_at new s) ≡ length (row_at old s) → points_in (row_at new s) ≡ points_in (row_at old s)
+    same_points_left s state = (left s state).whole
 
     new_length : length new ≡ states g
     new_length = refined.same_length ∙ open_rows.one_each
@@ -159,7 +161,7 @@ module _ (g : DynamicGame) (n : ℕ) (ok : IsGame g) (two : g.players ≡ 2) (ol
       one_each = new_length;
       each = λ s state. record { ascending = (left s state).ascending; candidates = λ k d below. ((left s state).all k d below).candidate };
       enough = enough_left;
-      failed = λ s state k d below b less meets. ((left s state).all k d below).failed b less (meets_within g n (choice_of new) (choice_of old) s b (get_or (row_at new s) k d).point within_old meets);
+      failed = λ s state k d below b less meets. ((left s state).all k d below).failed b less (omega (arith, less, (left s state).live k d below)) (meets_within g n (choice_of new) (choice_of old) s b (get_or (row_at new s) k d).point within_old meets);
     }
 
     rows_shrink : (s : ℕ) → s < length old → length (row_at new s) ≤ length (row_at old s)

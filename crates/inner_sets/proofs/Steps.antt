@@ -2,7 +2,7 @@
 use Rattle.std.proofs.Common.{◌≡◌, ◌≢◌, ℕ, ◌+◌, ◌<◌, ◌≤◌, ◌^◌, ⊎_elim, Bool, List, [], ◌∷◌, ◌++◌, length, take, get_or, refl, sym, ap, subst, ◌∙◌, arith}
 use Rattle.std.specs.Prelude.{ℤ, pos, ◌+ℤ◌, ◌*ℤ◌, ◌≤ℤ◌, ◌<ℤ◌, ◌↔◌, All, filter, unsigned_abs}
 use Rattle.std.proofs.Math.ListN.{set}
-use Rattle.std.proofs.lemmas.Bool.{cases_lt}
+use Rattle.std.proofs.lemmas.Bool.{cases_lt, cases_eq}
 use Rattle.std.proofs.lemmas.Int.{ints}
 use Rattle.std.proofs.lemmas.List.{get_or-set_same, get_or-set_other, get_or_append_left, get_or_push}
 use Rattle.std.proofs.lemmas.List.Elements.{All-filter}
@@ -13,7 +13,7 @@ use Rattle.game_model.specs.Game.{DynamicGame, IsGame, states, counts, profile_c
 use Rattle.game_model.specs.SelfGeneration.{Entry, part}
 use Rattle.inner_sets.specs.declared.item.Item.{Item}
 use Rattle.inner_sets.specs.Built.{IsLotteryOf, ArePunishments, IsBuilt}
-use Rattle.inner_sets.specs.Rows.{choice_of, no_item, item_at, row_at, IsSmallRow, IsAdvanced, IsRefined, AreSettled}
+use Rattle.inner_sets.specs.Rows.{choice_of, no_item, item_at, row_at, IsSmallRow, IsTried, AreTried, IsAdvanced, AreAdvanced, IsRefined, AreSettled}
 use Rattle.inner_sets.specs.Choice.{remainder}
 use Rattle.inner_sets.specs.Summaries.{PointSummary, summary_at, AreSummaries, Passes}
 use Rattle.inner_sets.proofs.Choices.{passes_from}
@@ -40,26 +40,84 @@ small_filter p items h =
       small = λ k i below player. All-filter p (λ (x : Item). (i : ℕ) → i < 2 → unsigned_abs (part x.point i) ≤ 2 ^ 30) items each k no_item below i player;
     }
 
--- ---- one item written
-module _ (g : DynamicGame) (n : ℕ) (ys : List PointSummary) (s : ℕ) (initial now : List Item) (k : ℕ) (y : Item) (same : length now ≡ length initial) (below : k < length now) where
-  pub advanced_more : ((j : ℕ) → j < k → IsAdvanced g n ys s (item_at initial j) (item_at now j)) → ((j : ℕ) → k ≤ j → item_at now j ≡ item_at initial j) → IsAdvanced g n ys s (item_at now k) y
-      → (j : ℕ) → j < k + 1 → IsAdvanced g n ys s (item_at initial j) (item_at (set now k y) j)
-  advanced_more done rest here j less =
+-- ---- one item written, or none
+module _ (R : Item → Item → Type 0) (initial now : List Item) (k : ℕ) (same : length now ≡ length initial) (below : k < length now) where
+  pub items_more : (y : Item) → ((j : ℕ) → j < k → R (item_at initial j) (item_at now j)) → ((j : ℕ) → k ≤ j → item_at now j ≡ item_at initial j) → R (item_at now k) y
+      → (j : ℕ) → j < k + 1 → R (item_at initial j) (item_at (set now k y) j)
+  items_more y done rest here j less =
       ⊎_elim
       (λ (lt : j < k).
       let ne : j ≢ k = omega arith in
-      subst (λ (x : Item). IsAdvanced g n ys s (item_at initial j) x) (sym (get_or-set_other now k j y no_item ne)) (done j lt))
+      subst (λ (x : Item). R (item_at initial j) x) (sym (get_or-set_other now k j y no_item ne)) (done j lt))
       (λ (ge : k ≤ j).
       let e : k ≡ j = omega arith in
-      subst (λ (i : ℕ). IsAdvanced g n ys s (item_at initial i) (item_at (set now k y) i)) e
-      (subst (λ (x : Item). IsAdvanced g n ys s (item_at initial k) x) (sym (get_or-set_same now k y no_item below))
-      (subst (λ (x : Item). IsAdvanced g n ys s x y) (rest k (omega arith)) here)))
+      subst (λ (i : ℕ). R (item_at initial i) (item_at (set now k y) i)) e
+      (subst (λ (x : Item). R (item_at initial k) x) (sym (get_or-set_same now k y no_item below))
+      (subst (λ (x : Item). R x y) (rest k (omega arith)) here)))
       (cases_lt j k)
 
-  pub items_rest : ((j : ℕ) → k ≤ j → item_at now j ≡ item_at initial j) → (j : ℕ) → k + 1 ≤ j → item_at (set now k y) j ≡ item_at initial j
-  items_rest rest j more =
+  pub items_rest : (y : Item) → ((j : ℕ) → k ≤ j → item_at now j ≡ item_at initial j) → (j : ℕ) → k + 1 ≤ j → item_at (set now k y) j ≡ item_at initial j
+  items_rest y rest j more =
       let ne : j ≢ k = omega arith in
       get_or-set_other now k j y no_item ne ∙ rest j (omega arith)
+
+  pub items_same : ((j : ℕ) → j < k → R (item_at initial j) (item_at now j)) → ((j : ℕ) → k ≤ j → item_at now j ≡ item_at initial j) → R (item_at now k) (item_at now k)
+      → (j : ℕ) → j < k + 1 → R (item_at initial j) (item_at now j)
+  items_same done rest here j less =
+      ⊎_elim
+      (done j)
+      (λ (ge : k ≤ j).
+      let e : k ≡ j = omega arith in
+      subst (λ (i : ℕ). R (item_at initial i) (item_at now i)) e (subst (λ (x : Item). R x (item_at now k)) (rest k (omega arith)) here))
+      (cases_lt j k)
+
+-- ---- all profiles below m tried, and then profile m
+module _ (g : DynamicGame) (n : ℕ) (ys : List PointSummary) (s m : ℕ) where
+  one_more : (x y z : Item) → IsAdvanced g n ys s m x y → IsTried g n ys s m y z → IsAdvanced g n ys s (m + 1) x z
+  one_more x y z advanced tried =
+      ⊎_elim
+      (λ (here : y.profile ≡ m). ⊎_elim (λ passed. at_passed here passed.0 passed.1) (λ failed. at_failed here failed.0 failed.1) (tried.here here))
+      at_other
+      (cases_eq y.profile m)
+    where
+      point : z.point ≡ x.point
+      point = tried.point ∙ advanced.point
+
+      at_passed : y.profile ≡ m → Passes g n ys s m y.point → z.profile ≡ m → IsAdvanced g n ys s (m + 1) x z
+      at_passed here passes stays = record {
+        point = point;
+        failed = λ b from less. advanced.failed b from (omega arith);
+        passed = λ below. subst (λ (a : ℕ). Passes g n ys s a x.point) (sym stays) (subst (λ (v : List ℤ). Passes g n ys s m v) advanced.point passes);
+      }
+
+      at_failed : y.profile ≡ m → (Passes g n ys s m y.point → ⊥) → z.profile ≡ m + 1 → IsAdvanced g n ys s (m + 1) x z
+      at_failed here fails moves = record {
+        point = point;
+        failed = λ b from less passes.
+            ⊎_elim
+            (λ (lt : b < y.profile). advanced.failed b from lt passes)
+            (λ (ge : y.profile ≤ b).
+            let same : b ≡ m = omega arith in
+            fails (subst (λ (v : List ℤ). Passes g n ys s m v) (sym advanced.point) (subst (λ (a : ℕ). Passes g n ys s a x.point) same passes)))
+            (cases_lt b y.profile);
+        passed = λ below. absurd (omega arith);
+      }
+
+      at_other : (y.profile ≡ m → ⊥) → IsAdvanced g n ys s (m + 1) x z
+      at_other ne =
+          let stays : z.profile ≡ y.profile = tried.other ne in
+          let off : y.profile ≢ m = ne in
+          record {
+            point = point;
+            failed = λ b from less. advanced.failed b from (omega arith);
+            passed = λ below. subst (λ (a : ℕ). Passes g n ys s a x.point) (sym stays) (advanced.passed (omega arith));
+          }
+
+  pub one_profile_more : (old mid new : List Item) → AreAdvanced g n ys s m old mid → AreTried g n ys s m mid new → AreAdvanced g n ys s (m + 1) old new
+  one_profile_more old mid new advanced tried = record {
+    same_length = tried.same_length ∙ advanced.same_length;
+    each = λ k below. one_more (item_at old k) (item_at mid k) (item_at new k) (advanced.each k below) (tried.each k (omega (arith, below, advanced.same_length)));
+  }
 
 -- ---- one row written
 module _ (g : DynamicGame) (n : ℕ) (ys : List PointSummary) (initial now : List (List Item)) (k : ℕ) (y : List Item) (same : length now ≡ length initial) (below : k < length now) where

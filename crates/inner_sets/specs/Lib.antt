@@ -3,6 +3,7 @@ pub mod Candidates
 pub mod Choice
 pub mod Gains
 pub mod Inner
+pub mod Rounds
 pub mod Rows
 pub mod Summaries
 pub mod Trials

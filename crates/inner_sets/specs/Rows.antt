@@ -1,5 +1,5 @@
 -- Rows: the points of a state that are left, each with the profile from which on it is tried.
-use Rattle.std.specs.Prelude.{◌≡◌, ℕ, ◌<◌, ◌≤◌, ◌^◌, ℤ, List, [], length, map, filter, nat_lt, slice_index_or, unsigned_abs, All, AllPairs, Contains}
+use Rattle.std.specs.Prelude.{◌≡◌, ◌⊎◌, Bool, true, false, ℕ, ◌+◌, ◌<◌, ◌≤◌, ◌^◌, ℤ, List, [], length, map, filter, nat_lt, slice_index_or, unsigned_abs, All, AllPairs, Contains}
 use Rattle.game_model.specs.Game.{DynamicGame, states, counts, profile_count}
 use Rattle.game_model.specs.SelfGeneration.{part}
 use Rattle.inner_sets.specs.declared.item.Item.{Item}
@@ -27,16 +27,25 @@ pub record IsSmallRow (items : List Item) : Type 0 where
   pub few : length items ≤ 65535
   pub small : (k i : ℕ) → k < length items → i < 2 → unsigned_abs (part (item_at items k).point i) ≤ 2 ^ 30
 
--- An item has moved on to the next profile that its point passes, or past the last one.
-pub record IsAdvanced (g : DynamicGame) (n : ℕ) (summaries : List PointSummary) (s : ℕ) (old new : Item) : Type 0 where
+-- An item that stands at profile a has moved on by one unless its point passes; another has not.
+pub record IsTried (g : DynamicGame) (n : ℕ) (summaries : List PointSummary) (s a : ℕ) (old new : Item) : Type 0 where
   pub point : new.point ≡ old.point
-  pub within : new.profile ≤ profile_count (counts g s)
-  pub failed : (b : ℕ) → old.profile ≤ b → b < new.profile → Passes g n summaries s b old.point → ⊥
-  pub passed : new.profile < profile_count (counts g s) → Passes g n summaries s new.profile old.point
+  pub other : (old.profile ≡ a → ⊥) → new.profile ≡ old.profile
+  pub here : old.profile ≡ a → (Passes g n summaries s a old.point × (new.profile ≡ a)) ⊎ ((Passes g n summaries s a old.point → ⊥) × (new.profile ≡ a + 1))
 
-pub record AreAdvanced (g : DynamicGame) (n : ℕ) (summaries : List PointSummary) (s : ℕ) (old new : List Item) : Type 0 where
+pub record AreTried (g : DynamicGame) (n : ℕ) (summaries : List PointSummary) (s a : ℕ) (old new : List Item) : Type 0 where
   pub same_length : length new ≡ length old
-  pub each : (k : ℕ) → k < length old → IsAdvanced g n summaries s (item_at old k) (item_at new k)
+  pub each : (k : ℕ) → k < length old → IsTried g n summaries s a (item_at old k) (item_at new k)
+
+-- An item has moved on to the next profile below m that its point passes, or past those below m.
+pub record IsAdvanced (g : DynamicGame) (n : ℕ) (summaries : List PointSummary) (s m : ℕ) (old new : Item) : Type 0 where
+  pub point : new.point ≡ old.point
+  pub failed : (b : ℕ) → old.profile ≤ b → b < new.profile → Passes g n summaries s b old.point → ⊥
+  pub passed : new.profile < m → Passes g n summaries s new.profile old.point
+
+pub record AreAdvanced (g : DynamicGame) (n : ℕ) (summaries : List PointSummary) (s m : ℕ) (old new : List Item) : Type 0 where
+  pub same_length : length new ≡ length old
+  pub each : (k : ℕ) → k < length old → IsAdvanced g n summaries s m (item_at old k) (item_at new k)
 
 -- the items that aren't past the last profile
 abbrev pub alive : DynamicGame → ℕ → List Item → List Item
@@ -44,7 +53,7 @@ alive g s items = filter (λ (x : Item). nat_lt x.profile (profile_count (counts
 
 -- all items moved on, and those past the last profile taken away
 abbrev pub IsRefined : DynamicGame → ℕ → List PointSummary → ℕ → List Item → List Item → Type 0
-IsRefined g n summaries s old new = (moved : List Item) × AreAdvanced g n summaries s old moved × (new ≡ alive g s moved)
+IsRefined g n summaries s old new = (moved : List Item) × AreAdvanced g n summaries s (profile_count (counts g s)) old moved × (new ≡ alive g s moved)
 
 pub record AreRefined (g : DynamicGame) (n : ℕ) (summaries : List PointSummary) (old new : List (List Item)) : Type 0 where
   pub same_length : length new ≡ length old
@@ -72,3 +81,12 @@ pub record AreOpen (g : DynamicGame) (n : ℕ) (rows : List (List Item)) : Type 
 pub record AreSettled (g : DynamicGame) (n : ℕ) (rows : List (List Item)) : Type 0 where
   pub open_rows : AreOpen g n rows
   pub given : (s : ℕ) → s < states g → All (λ (x : Item). (x.profile < profile_count (counts g s)) × Meets g n (choice_of rows) s x.profile x.point) (row_at rows s)
+
+-- Each point passes the profile that it has.
+abbrev pub IsHeld : DynamicGame → ℕ → List PointSummary → ℕ → List Item → Type 0
+IsHeld g n summaries s items = All (λ (x : Item). (x.profile < profile_count (counts g s)) × Passes g n summaries s x.profile x.point) items
+
+-- so in each state whose flag isn't set
+pub record AreHeld (g : DynamicGame) (n : ℕ) (summaries : List PointSummary) (stale : List Bool) (rows : List (List Item)) : Type 0 where
+  pub one_flag_each : length stale ≡ states g
+  pub held : (s : ℕ) → s < states g → slice_index_or stale s false ≡ false → IsHeld g n summaries s (row_at rows s)

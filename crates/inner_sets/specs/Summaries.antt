@@ -1,5 +1,5 @@
 -- Summaries: what other states ask of a state's points.
-use Rattle.std.specs.Prelude.{◌≡◌, ◌↔◌, ℕ, ◌<◌, ◌≤◌, ◌^◌, ℤ, List, [], length, map, slice_index, slice_index_or, unsigned_abs, All}
+use Rattle.std.specs.Prelude.{◌≡◌, ◌↔◌, ℕ, ◌<◌, ◌≤◌, ◌^◌, ℤ, pos, ◌*ℤ◌, ◌≤ℤ◌, List, [], length, map, slice_index, slice_index_or, unsigned_abs, All}
 use Rattle.game_model.specs.Game.{DynamicGame, states, successor, IsDeviation, deviation_at, reached}
 use Rattle.game_model.specs.SelfGeneration.{part}
 use Rattle.hull_weights.specs.Hull.{IsInHull, IsSmallPoint, point_at}
@@ -51,6 +51,16 @@ IsDeterredBy g n y s b i v = (0 < length y.points) × Deters g n s b i v (part y
 
 abbrev pub DetersAt : DynamicGame → ℕ → List PointSummary → ℕ → ℕ → List ℤ → ℕ → ℕ → Type 0
 DetersAt g n summaries s a v i b = IsDeterredBy g n (summary_at summaries (reached g s a i b)) s (deviation_at g s a i b) i v
+
+-- what one deviation asks of a part, times q
+pub record IsAskOf (g : DynamicGame) (n : ℕ) (summaries : List PointSummary) (s a i b : ℕ) (ask : ℤ) : Type 0 where
+  pub small : unsigned_abs ask ≤ 2 ^ 62
+  pub enough : (v : List ℤ) → unsigned_abs (part v i) ≤ 2 ^ 30 → (ask ≤ℤ (pos g.q *ℤ part v i)) ↔ DetersAt g n summaries s a v i b
+
+-- the same of all deviations of a player
+pub record IsAsk (g : DynamicGame) (n : ℕ) (summaries : List PointSummary) (s a i : ℕ) (ask : ℤ) : Type 0 where
+  pub small : unsigned_abs ask ≤ 2 ^ 62
+  pub enough : (v : List ℤ) → unsigned_abs (part v i) ≤ 2 ^ 30 → (ask ≤ℤ (pos g.q *ℤ part v i)) ↔ ((b : ℕ) → IsDeviation g s a i b → DetersAt g n summaries s a v i b)
 
 -- the profile gives the point, as far as the summaries tell
 pub record Passes (g : DynamicGame) (n : ℕ) (summaries : List PointSummary) (s a : ℕ) (v : List ℤ) : Type 0 where

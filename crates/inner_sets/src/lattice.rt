@@ -7,7 +7,7 @@ ghost use Rattle.game_model.specs.SelfGeneration.{part};
 ghost use Rattle.inner_sets.specs.Candidates.{IsAscending, IsCandidate, IsLatticePoint, IsRange, IsStagePoint};
 ghost use Rattle.inner_sets.specs.Gains.{Adds, IsColumnBelow, IsStateRange, step_of};
 
-use crate::sizes::times;
+use crate::sizes::{sum, times};
 use game_model::{Game, List};
 use std::alloc::{AllocError, Global};
 
@@ -127,14 +127,6 @@ fn span(low: i64, high: i64) -> i64
     ensures small { unsigned_abs result ≤ 2 ^ 27 }
 {
     high - low
-}
-
-fn sum(first: i64, second: i64) -> i64
-    requires first { unsigned_abs first ≤ 2 ^ 45 }
-    requires second { unsigned_abs second ≤ 2 ^ 45 }
-    ensures { result ≡ first +ℤ second }
-{
-    first + second
 }
 
 /// The least and the largest payoff of player `i`, over all states and profiles.

@@ -3,7 +3,9 @@ ghost use Rattle.game_model.specs.Game.{counts, profile_count, states};
 ghost use Rattle.game_model.specs.SelfGeneration.{part};
 ghost use Rattle.hull_weights.specs.Hull.{point_at};
 ghost use Rattle.inner_sets.specs.Choice.{IsFirstLeast};
-ghost use Rattle.inner_sets.specs.Rows.{AreAdvanced, IsAdvanced, IsRefined, item_at, points_in};
+ghost use Rattle.inner_sets.specs.Rows.{AreAdvanced, AreTried, IsRefined, IsTried, item_at, points_in};
+ghost use Rattle.inner_sets.specs.Summaries.{IsAsk};
+ghost use Rattle.inner_sets.specs.Trials.{IsTrial};
 ghost use Rattle.inner_sets.specs.declared.item.Item.{Item};
 
 use crate::item::Item;
@@ -122,12 +124,29 @@ impl Row {
         requires n { n ≤ 16 }
         requires one_each { length summaries.now ≡ states game.now }
         requires state { s < states game.now }
-        ensures { AreAdvanced game.now n summaries.now s self.old self.new }
+        ensures { AreAdvanced game.now n summaries.now s (profile_count (counts game.now s)) self.old self.new }
     {
+        let _players = game.players();
+        for profile in 0..game.profiles(s) {
+            let trial = Trial {
+                game,
+                n,
+                summaries,
+                state: s,
+                profile,
+            };
+            self.try_all(&trial);
+        }
+    }
+
+    /// Moves each point that stands at the profile of the trial on to the next one, where this one doesn't give it.
+    fn try_all(&mut self, trial: &Trial)
+        requires trial { IsTrial trial.now }
+        ensures { AreTried trial.now.game.now trial.now.n trial.now.summaries.now trial.now.state trial.now.profile self.old self.new }
+    {
+        let asks = trial.asks();
         for k in 0..self.len() {
-            let item = self.item(k);
-            let profile = next_profile(game, n, summaries, s, item);
-            self.put(k, Item { profile, ..item });
+            self.put(k, tried(trial, asks, self.item(k)));
         }
     }
 
@@ -141,28 +160,21 @@ impl Row {
     }
 }
 
-/// The first profile from the item's own on that gives the item's point, or the number of profiles.
-fn next_profile(game: &Game, n: u32, summaries: &[Summary], s: u32, item: Item) -> u32
-    requires players { game.now.players ≡ 2 }
-    requires n { n ≤ 16 }
-    requires one_each { length summaries.now ≡ states game.now }
-    requires state { s < states game.now }
+/// The item, moved on by one where it stands at the profile of the trial and this one doesn't give its point.
+fn tried(trial: &Trial, asks: [i64; 2], item: Item) -> Item
+    requires trial { IsTrial trial.now }
+    requires asks { (i : ℕ) → i < 2 → IsAsk trial.now.game.now trial.now.n trial.now.summaries.now trial.now.state trial.now.profile i (part asks i) }
     requires small { (i : ℕ) → i < 2 → unsigned_abs (part item.point i) ≤ 2 ^ 30 }
-    ensures { IsAdvanced game.now n summaries.now s item (record item { profile = result }) }
+    ensures { IsTried trial.now.game.now trial.now.n trial.now.summaries.now trial.now.state trial.now.profile item result }
 {
-    let _players = game.players();
-    let profiles = game.profiles(s);
-    for profile in item.profile..profiles {
-        let trial = Trial {
-            game,
-            n,
-            summaries,
-            state: s,
-            profile,
-        };
-        if trial.passes(item.point) {
-            return profile;
-        }
+    if item.profile != trial.profile {
+        return item;
     }
-    profiles
+    if trial.passes(asks, item.point) {
+        return item;
+    }
+    Item {
+        profile: trial.profile + 1,
+        ..item
+    }
 }

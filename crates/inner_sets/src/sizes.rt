@@ -46,6 +46,15 @@ pub(crate) fn remainder_part(game: &Game, n: u32, s: u32, a: u32, i: u32, part: 
     difference(times(q, part), payoff_share(game, n, s, a, i))
 }
 
+pub(crate) fn sum(first: i64, second: i64) -> i64
+    requires first { unsigned_abs first ≤ 2 ^ 45 }
+    requires second { unsigned_abs second ≤ 2 ^ 45 }
+    ensures sum { result ≡ first +ℤ second }
+    ensures small { unsigned_abs result ≤ 2 ^ 46 }
+{
+    first + second
+}
+
 fn difference(first: i64, second: i64) -> i128
     requires first { unsigned_abs first ≤ 2 ^ 45 }
     requires second { unsigned_abs second ≤ 2 ^ 45 }
@@ -54,13 +63,13 @@ fn difference(first: i64, second: i64) -> i128
     i128::from(first - second)
 }
 
-/// Whether two numbers together are at most a third.
-pub(crate) fn is_at_most(first: i64, second: i64, third: i64) -> bool
-    requires first { unsigned_abs first ≤ 2 ^ 45 }
-    requires second { unsigned_abs second ≤ 2 ^ 45 }
-    ensures { IsTrue result ↔ ((first +ℤ second) ≤ℤ third) }
+/// Whether a part, times `q`, is at least what is asked.
+pub(crate) fn is_enough(ask: i64, q: u32, part: i64) -> bool
+    requires q { q ≤ 2 ^ 14 }
+    requires part { unsigned_abs part ≤ 2 ^ 31 }
+    ensures { IsTrue result ↔ (ask ≤ℤ (pos q *ℤ part)) }
 {
-    first + second <= third
+    ask <= times(q, part)
 }
 
 /// Part `i` of a point.

@@ -1,8 +1,9 @@
-ghost use Rattle.std.specs.Prelude.{◌≡◌, ℤ, List, ◌^◌, ◌<◌, ◌≤◌, ◌↔◌, [], IsTrue, IfOk, length, map, slice_index, slice_index_or, unsigned_abs, All};
+ghost use Rattle.std.specs.Prelude.{◌≡◌, ℤ, List, ◌^◌, ◌<◌, ◌≤◌, ◌↔◌, [], false, IsTrue, IfOk, OnOk, length, map, slice_index, slice_index_or, unsigned_abs, All};
 ghost use Rattle.game_model.specs.Game.{states};
 ghost use Rattle.game_model.specs.SelfGeneration.{part};
 ghost use Rattle.hull_weights.specs.Hull.{IsInHull, IsSmallPoint};
 ghost use Rattle.inner_sets.specs.Choice.{discounted};
+ghost use Rattle.inner_sets.specs.Rounds.{AreRenewed};
 ghost use Rattle.inner_sets.specs.Rows.{choice_of, points_in};
 ghost use Rattle.inner_sets.specs.Summaries.{AreSummaries, IsSummary, summary_at};
 
@@ -137,4 +138,33 @@ pub(crate) fn summaries_of(
         summaries.push(Summary::of(alloc, game, row)?)?;
     }
     Ok(summaries)
+}
+
+/// Whether a row has lost a point since its summary.
+pub(crate) fn has_lost(row: &Row, summary: &Summary) -> bool
+    ensures { result ≡ false ↔ (length row.now ≡ length summary.now.points) }
+{
+    row.len() as usize != summary.points.len()
+}
+
+/// Makes the summaries of the rows that have lost a point anew.
+pub(crate) fn renew(
+    alloc: Global,
+    game: &Game,
+    rows: &[Row],
+    summaries: &mut [Summary],
+) -> Result<(), AllocError>
+    requires players { game.now.players ≡ 2 }
+    requires one_row_each { length rows.now ≡ states game.now }
+    requires one_summary_each { length summaries.old ≡ states game.now }
+    ensures { OnOk result (AreRenewed game.now rows.now summaries.old summaries.new) }
+{
+    let _players = game.players();
+    for s in 0..game.states() {
+        let row = &rows[s as usize];
+        if has_lost(row, &summaries[s as usize]) {
+            summaries[s as usize] = Summary::of(alloc, game, row)?;
+        }
+    }
+    Ok(())
 }

@@ -1,14 +1,17 @@
-ghost use Rattle.std.specs.Prelude.{◌≡◌, ◌≢◌, ℕ, ◌^◌, ◌<◌, ◌≤◌, ◌↔◌, IsTrue, MatchOption, length, slice_index, unsigned_abs};
+ghost use Rattle.std.specs.Prelude.{◌≡◌, ◌≢◌, ℕ, ◌^◌, ◌<◌, ◌≤◌, ◌↔◌, pos, ◌+ℤ◌, ◌*ℤ◌, IsTrue, MatchOption, length, slice_index, unsigned_abs};
 ghost use Rattle.game_model.specs.Game.{IsDeviation, counts, deviation_at, reached, states, profile_count, strategy_at, successor};
 ghost use Rattle.game_model.specs.SelfGeneration.{part};
 ghost use Rattle.hull_weights.specs.Hull.{IsInHull, IsTriangle};
-ghost use Rattle.inner_sets.specs.Choice.{Deters, remainder};
-ghost use Rattle.inner_sets.specs.Summaries.{Continues, DetersAt, IsDeterredBy, Passes, summary_at};
+ghost use Rattle.inner_sets.specs.Choice.{discount, payoff_share, remainder};
+ghost use Rattle.inner_sets.specs.Summaries.{Continues, DetersAt, IsAsk, IsAskOf, Passes, summary_at};
 
-use crate::sizes::{is_at_most, is_small_point, part_of, payoff_share, remainder_part, times};
+use crate::sizes::{is_enough, is_small_point, part_of, payoff_share, remainder_part, sum, times};
 use crate::summary::Summary;
 use game_model::Game;
 use hull_weights::{HullAnswer, HullWeights, is_in_hull, triangle};
+
+/// More than `q` times any part.
+const BEYOND: i64 = 1 << 62;
 
 /// A profile of a state at which points are tried. Points are in units of `1/(denominator*n)`.
 #[derive(Clone, Copy)]
@@ -24,13 +27,14 @@ pub(crate) struct Trial<'a> {
 impl<'a> Trial<'a> {
     ghost use Rattle.inner_sets.specs.Trials.{IsTrial};
 
-    /// Whether the profile gives the point.
-    pub(crate) fn passes(&self, point: [i64; 2]) -> bool
+    /// Whether the profile gives the point, where this is what it asks.
+    pub(crate) fn passes(&self, asks: [i64; 2], point: [i64; 2]) -> bool
         requires trial { IsTrial self.now }
+        requires asks { (i : ℕ) → i < 2 → IsAsk self.now.game.now self.now.n self.now.summaries.now self.now.state self.now.profile i (part asks i) }
         requires small { (i : ℕ) → i < 2 → unsigned_abs (part point i) ≤ 2 ^ 30 }
         ensures { IsTrue result ↔ Passes self.now.game.now self.now.n self.now.summaries.now self.now.state self.now.profile point }
     {
-        self.deters_all(point) && self.continues(point)
+        self.deters_all(asks, point) && self.continues(point)
     }
 
     fn continues(&self, point: [i64; 2]) -> bool
@@ -113,60 +117,78 @@ impl<'a> Trial<'a> {
         &self.summaries[s as usize]
     }
 
-    /// Whether no deviation gains.
-    fn deters_all(&self, point: [i64; 2]) -> bool
-        requires trial { IsTrial self.now }
-        requires small { (i : ℕ) → i < 2 → unsigned_abs (part point i) ≤ 2 ^ 30 }
-        ensures { IsTrue result ↔ ((i b : ℕ) → IsDeviation self.now.game.now self.now.state self.now.profile i b → DetersAt self.now.game.now self.now.n self.now.summaries.now self.now.state self.now.profile point i b) }
+    /// What the profile asks of each part of a point.
+    pub(crate) fn asks(&self) -> [i64; 2]
+        requires { IsTrial self.now }
+        ensures { (i : ℕ) → i < 2 → IsAsk self.now.game.now self.now.n self.now.summaries.now self.now.state self.now.profile i (part result i) }
     {
-        for i in 0..2 {
-            if !self.deters(point, i) {
-                return false;
-            }
-        }
-        true
+        let first = self.ask(0);
+        let second = self.ask(1);
+        [first, second]
     }
 
-    /// The same of one player's deviations.
-    fn deters(&self, point: [i64; 2], i: u32) -> bool
+    /// What player `i`'s deviations ask: the least `q` times a part at which none gains.
+    fn ask(&self, i: u32) -> i64
         requires trial { IsTrial self.now }
-        requires small { (i : ℕ) → i < 2 → unsigned_abs (part point i) ≤ 2 ^ 30 }
         requires player { i < 2 }
-        ensures { IsTrue result ↔ ((b : ℕ) → IsDeviation self.now.game.now self.now.state self.now.profile i b → DetersAt self.now.game.now self.now.n self.now.summaries.now self.now.state self.now.profile point i b) }
+        ensures { IsAsk self.now.game.now self.now.n self.now.summaries.now self.now.state self.now.profile i result }
     {
         let own = self.strategy(i);
+        let mut ask = -BEYOND;
         for b in 0..self.strategies(i) {
-            if b != own && !self.deters_one(point, i, b) {
-                return false;
+            if b != own {
+                ask = ask.max(self.ask_of(i, b));
             }
         }
-        true
+        ask
     }
 
-    /// Whether the least part of the state that the deviation reaches deters it.
-    fn deters_one(&self, point: [i64; 2], i: u32, b: u32) -> bool
+    /// What one deviation asks, where the least part of the state that it reaches follows.
+    fn ask_of(&self, i: u32, b: u32) -> i64
         requires trial { IsTrial self.now }
-        requires small { (i : ℕ) → i < 2 → unsigned_abs (part point i) ≤ 2 ^ 30 }
         requires deviation { IsDeviation self.now.game.now self.now.state self.now.profile i b }
-        ensures { IsTrue result ↔ DetersAt self.now.game.now self.now.n self.now.summaries.now self.now.state self.now.profile point i b }
+        ensures { IsAskOf self.now.game.now self.now.n self.now.summaries.now self.now.state self.now.profile i b result }
     {
         let deviation = self.game.deviation(self.state, self.profile, i, b);
         let reached = self.summary(self.game.next(self.state, deviation));
-        !reached.is_empty() && self.least_deters(point, i, deviation, reached)
+        if reached.is_empty() {
+            return BEYOND;
+        }
+        self.least_ask(i, deviation, reached)
     }
 
-    /// Whether profile `b` of the state, and then the least part, is no gain for the player.
-    fn least_deters(&self, point: [i64; 2], i: u32, b: u32, reached: &Summary) -> bool
+    /// What profile `b` of the state, and then the least part, give to the player.
+    fn least_ask(&self, i: u32, b: u32, reached: &Summary) -> i64
         requires trial { IsTrial self.now }
-        requires small { (i : ℕ) → i < 2 → unsigned_abs (part point i) ≤ 2 ^ 30 }
         requires player { i < 2 }
         requires profile { b < profile_count (counts self.now.game.now self.now.state) }
-        ensures { IsTrue result ↔ Deters self.now.game.now self.now.n self.now.state b i point (part reached.now.least i) }
+        ensures ask { result ≡ payoff_share self.now.game.now self.now.n self.now.state b i +ℤ pos (discount self.now.game.now i) *ℤ part reached.now.least i }
+        ensures small { unsigned_abs result ≤ 2 ^ 46 }
     {
-        let (p, q) = self.game.discount_of(i);
+        let (p, _q) = self.game.discount_of(i);
         let share = payoff_share(self.game, self.n, self.state, b, i);
-        let least = reached.least(i);
-        let own = part_of(point, i);
-        is_at_most(share, times(p, least), times(q, own))
+        sum(share, times(p, reached.least(i)))
+    }
+
+    /// Whether no deviation gains, where this is what they ask.
+    fn deters_all(&self, asks: [i64; 2], point: [i64; 2]) -> bool
+        requires trial { IsTrial self.now }
+        requires asks { (i : ℕ) → i < 2 → IsAsk self.now.game.now self.now.n self.now.summaries.now self.now.state self.now.profile i (part asks i) }
+        requires small { (i : ℕ) → i < 2 → unsigned_abs (part point i) ≤ 2 ^ 30 }
+        ensures { IsTrue result ↔ ((i b : ℕ) → IsDeviation self.now.game.now self.now.state self.now.profile i b → DetersAt self.now.game.now self.now.n self.now.summaries.now self.now.state self.now.profile point i b) }
+    {
+        self.deters(asks, point, 0) && self.deters(asks, point, 1)
+    }
+
+    /// The same of one player's deviations.
+    fn deters(&self, asks: [i64; 2], point: [i64; 2], i: u32) -> bool
+        requires trial { IsTrial self.now }
+        requires player { i < 2 }
+        requires ask { IsAsk self.now.game.now self.now.n self.now.summaries.now self.now.state self.now.profile i (part asks i) }
+        requires small { (i : ℕ) → i < 2 → unsigned_abs (part point i) ≤ 2 ^ 30 }
+        ensures { IsTrue result ↔ ((b : ℕ) → IsDeviation self.now.game.now self.now.state self.now.profile i b → DetersAt self.now.game.now self.now.n self.now.summaries.now self.now.state self.now.profile point i b) }
+    {
+        let (_p, q) = self.game.discount_of(i);
+        is_enough(asks[i as usize], q, part_of(point, i))
     }
 }

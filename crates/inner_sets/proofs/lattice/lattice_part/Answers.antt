@@ -21,4 +21,4 @@ returns c =
     let wide : c.span.result ≡ c.args.range.1 -ℤ c.args.range.0 = cc (c.span.ensures.span) in
     let e2 : c.times-more.result ≡ pos c.args.j *ℤ (c.args.range.1 -ℤ c.args.range.0) = cc (c.times-more.ensures.product) in
     let swapped : pos c.args.j *ℤ (c.args.range.1 -ℤ c.args.range.0) ≡ (c.args.range.1 -ℤ c.args.range.0) *ℤ pos c.args.j = product_swap (pos c.args.j) (c.args.range.1 -ℤ c.args.range.0) in
-    s3 ∙ (c.sum.ensures ∙ (ap (λ (z : ℤ). z +ℤ to_z w64 (of_z w64 c.times-more.result)) (s1 ∙ e1) ∙ ap (λ (z : ℤ). pos c.args.n *ℤ c.args.range.0 +ℤ z) (s2 ∙ (e2 ∙ swapped))))
+    s3 ∙ (c.sum.ensures.sum ∙ (ap (λ (z : ℤ). z +ℤ to_z w64 (of_z w64 c.times-more.result)) (s1 ∙ e1) ∙ ap (λ (z : ℤ). pos c.args.n *ℤ c.args.range.0 +ℤ z) (s2 ∙ (e2 ∙ swapped))))
