@@ -1,6 +1,6 @@
 #!/bin/sh
-# Times the built program over the example games, repeated and dynamic, in 4 and in 16 directions, by 1, 2 and 4 workers, and the check of
-# a large set, which bench/set.sh writes, a line each. It is no test.
+# Times the built program over the example games, repeated and dynamic, in 4 and in 16 directions, by 1, 2 and 4 workers, the check of
+# a large set, which bench/set.sh writes, games of 8 and 64 states that are drawn from a number, and replays of 100,000 moves, which bench/moves.sh writes, a line each. It is no test.
 top=$(CDPATH='' cd -- "$(dirname -- "$0")/.." && pwd) || exit 1
 program=$top/crates/payoff_cli/out/payoff_cli
 cd "$top" || exit 1
@@ -38,6 +38,13 @@ for game in examples/*.nfg examples/*.dyn; do
     done
 done
 
+for states in 8 64; do
+    for workers in 1 2 4; do
+        words="seed=1 states=$states workers=$workers"
+        measure "make $words" "make $words"
+    done
+done
+
 for strategies in 4 16; do
     dir=$(mktemp -d)
     sh bench/states.sh "$dir" 64 $strategies
@@ -54,4 +61,12 @@ dir=$(mktemp -d)
 sh bench/set.sh "$dir"
 "$program" check "$dir/game.dyn" "$dir/set.sgc" discount=1/2 || echo 'bench: the set was to hold' >&2
 measure 'check of 64 states with 1000 entries each' "check $dir/game.dyn $dir/set.sgc discount=1/2"
+rm -rf "$dir"
+
+dir=$(mktemp -d)
+sh bench/states.sh "$dir" 64 16
+sh bench/moves.sh 100000 16 >"$dir/one.sch"
+sh bench/moves.sh 100000 1024 >"$dir/many.sch"
+measure '100000 moves on the dilemma' "replay examples/pd.nfg $dir/one.sch discount=9/10"
+measure '100000 moves on 64 states of 16 by 16' "replay $dir/states.dyn $dir/many.sch discount=9/10"
 rm -rf "$dir"

@@ -1,5 +1,5 @@
 -- what a run says of its report, and that the report can be printed
-use Rattle.std.proofs.Common.{◌≡◌, ℕ, zero, suc, ◌*◌, ◌^◌, ◌<◌, ◌≤◌, List, [], ◌∷◌, length, All, Some, None, sym, ◌∙◌, subst, arith, ℤ, pos, FitsSigned}
+use Rattle.std.proofs.Common.{◌≡◌, ℕ, zero, suc, ◌*◌, ◌^◌, ◌<◌, ◌≤◌, List, [], ◌∷◌, length, All, Option, Some, None, sym, ◌∙◌, subst, arith, ℤ, pos, negsuc, ◌≤ℤ◌, FitsSigned}
 use Rattle.std.specs.Int.RustNames.{unsigned_abs}
 use Rattle.std.specs.Prelude.{slice_index_or}
 use Rattle.std.specs.Int.{w128}
@@ -13,10 +13,13 @@ use Rattle.set_operator.specs.declared.row.Support.{Support}
 use Rattle.set_operator.specs.declared.row.Verdict.{Verdict}
 use Rattle.set_operator.specs.declared.row.Verdict.TheVariants.{Supported, Unsupported}
 use Rattle.settle_test.specs.Verdicts.{IsVerdict, AreSupports, IsSupportOf, state_of, direction_of}
-use Rattle.report_text.specs.ReportText.{IsPrintable, IsPrintableVerdict, IsFraction, rows_of}
+use Rattle.selfgen_check.specs.Promises.{Promises}
+use Rattle.report_text.specs.ReportText.{IsPrintable, IsPrintableVerdict, IsPrintableSet, IsFraction, rows_of}
 use Rattle.report_text.specs.declared.report.Report.{Report}
 use Rattle.sweep_run.specs.Runs.{IsRunFrom}
+use Rattle.std.proofs.Math.Nat.{mul-pos}
 use Rattle.exact_algebra.proofs.Order.{abs_within}
+use Rattle.solve_run.specs.Inner.{IsInnerShown}
 use Rattle.solve_run.specs.Solved.{run_of}
 
 pub unit_fits : (g : DynamicGame) (grid : ℕ) → IsGame g → grid ≤ 30 → FitsSigned w128 (unit_of g grid)
@@ -58,9 +61,27 @@ printable_verdict : (p : Problem) (slack : ℕ) (r : Report) (v : Verdict) → l
 printable_verdict p slack r (Supported supports) rows verdict = printable_all p r.levels slack (length r.levels.levels) (rows_of r) supports verdict.1 (omega (arith, rows))
 printable_verdict p slack r (Unsupported row level reached) rows verdict = omega (arith, rows, verdict.0)
 
+abs_positive : (z : ℤ) → pos 1 ≤ℤ z → 0 < unsigned_abs z
+abs_positive (pos n) h = omega (arith, ints)
+abs_positive (negsuc n) h = absurd (omega (arith, ints))
+
+-- inner sets of the report's states and players, with their numbers
+printable_inner : (g : DynamicGame) (n : ℕ) (r : Report) (inner : Option Promises) → IsGame g → r.players ≡ g.players → r.states ≡ states g → IsInnerShown g n inner r.numbers → IsPrintableSet r inner
+printable_inner g n r None ok players count shown = shown.1
+printable_inner g n r (Some c) ok players count shown =
+    let made = shown.1.self_generating in (
+      shown.1.numbered.one_list_each ∙ sym count,
+      record {
+        positive = rw shown.1.inner.common (mul-pos {m = unsigned_abs g.denominator} {n = n} (abs_positive g.denominator ok.denominator_positive) shown.0);
+        one_list_each = made.one_list_each ∙ sym count;
+        one_number_each = λ s below. (shown.1.numbered.each s (omega (arith, below, count))).one_each;
+        one_part_each = λ s j below known. (made.generated s j (omega (arith, below, count)) known).parts ∙ sym players;
+      },
+    )
+
 pub report_prints : (p : Problem) (slack budget : ℕ) (r : Report) → IsProblem p → r.players ≡ p.game.players → r.states ≡ states p.game → r.directions ≡ direction_count p
-    → IsRunFrom p (opening_table p) [] slack budget (run_of r) → length r.discounts ≡ p.game.players → All (λ d. 0 < d.1) r.discounts → IsPrintable r
-report_prints p slack budget r ok players count directions run each positive =
+    → IsRunFrom p (opening_table p) [] slack budget (run_of r) → length r.discounts ≡ p.game.players → All (λ d. 0 < d.1) r.discounts → (n : ℕ) → IsInnerShown p.game n r.inner r.numbers → IsPrintable r
+report_prints p slack budget r ok players count directions run each positive n inner =
     let table : IsTableOf p r.levels = run.run.sound.table.sizes in
     let states_same : r.levels.states ≡ r.states = table.states_agree ∙ sym count in
     let directions_same : r.levels.directions ≡ r.directions = table.directions_agree ∙ sym directions in
@@ -73,4 +94,5 @@ report_prints p slack budget r ok players count directions run each positive =
       states = states_same;
       directions = directions_same;
       verdict = printable_verdict p slack r r.verdict rows run.is_verdict;
+      sets = printable_inner p.game n r r.inner ok.game players count inner;
     }

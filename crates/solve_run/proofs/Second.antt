@@ -1,4 +1,4 @@
--- the file of a correspondence, loaded behind those of its game
+-- the second file, loaded behind those of the game
 use Rattle.std.proofs.Common.{◌≡◌, inl, inr, ℕ, List, Option, Ok, refl, sym, subst, ap, ◌∙◌}
 use Rattle.game_model.specs.Game.{DynamicGame}
 use Rattle.game_files.specs.declared.fault.FileId.TheVariants.{Second}
@@ -12,6 +12,11 @@ use Rattle.selfgen_check.specs.declared.text_fault.CorrTextFault.TheVariants.{Ba
 use Rattle.selfgen_check.specs.Measures.{corr_of}
 use Rattle.selfgen_check.specs.Promises.{Promises}
 use Rattle.selfgen_check.specs.TextFaults.{Fails}
+use Rattle.schedule_core.specs.declared.moves.Schedule.{Schedule}
+use Rattle.schedule_core.specs.declared.schedule_fault.ScheduleFault.{ScheduleFault}
+use Rattle.schedule_core.specs.declared.schedule_fault.ScheduleFault.TheVariants as schedules
+use Rattle.schedule_core.specs.Schedules.{Fails as ScheduleFails, schedule_of}
+use Rattle.solve_run.specs.Replays.{IsNoSchedule, IsScheduleFault, IsScheduleOf, IsScheduleTextFault, schedule_refused}
 use Rattle.solve_run.specs.Checks.{IsCorrFault, IsCorrOf, IsCorrTextFault, IsNoCorr, IsSecondFault, corr_refused, longest_second}
 
 -- why a text that stands under the name gives no correspondence
@@ -50,7 +55,7 @@ corr_text_fault now old name g faults.NoMemory same h = tt
 
 -- the fault of the file that was loaded behind those of the game
 pub second_fault : (now old : List ℕ → Option (List ℕ)) (file corr : List ℕ) (g : DynamicGame) (before mid after : Counts) (r : GameFault) → ((n : List ℕ) → now n ≡ old n) → AreLoadsOf old file before mid → AreLoads 1 mid after
-    → IsCorrFault now corr g mid after r → IsSecondFault old file corr g before after r
+    → IsCorrFault now corr g mid after r → IsSecondFault old file before after (IsCorrFault old corr g before after r)
 second_fault now old file corr g before mid after r same game one h = record {
   first = game.first;
   is_first = game.is_first;
@@ -58,5 +63,46 @@ second_fault now old file corr g before mid after r same game one h = record {
   fault = elim h [
     | inl load ↦ inl (load_fault now old longest_second Second corr before mid after r same game.loads.faults game.loads.overlong load)
     | inr text ↦ inr (corr_text_fault now old corr g r same text)
+  ];
+}
+
+-- ---- a schedule
+-- why a text that stands under the name gives no schedule
+schedule_text_fault : (told : List ℕ → Option (List ℕ)) (name bytes : List ℕ) (rows : ℕ) (e : ScheduleFault) → Stands told longest_second name bytes → ScheduleFails e (schedule_of rows bytes) → IsScheduleTextFault told name rows (schedule_refused e)
+schedule_text_fault told name bytes rows (schedules.Bad at) h f = (refl, record { bytes = bytes; stands = h; says = f })
+schedule_text_fault told name bytes rows (schedules.Limit what number at) h f = (at, record { bytes = bytes; stands = h; says = f })
+schedule_text_fault told name bytes rows schedules.NoMemory h f = tt
+
+pub told_schedule_fault : (told : List ℕ → Option (List ℕ)) (name bytes seen : List ℕ) (rows : ℕ) (before after : Counts) (e : ScheduleFault) (r : GameFault) → Stands told longest_second name bytes → seen ≡ bytes
+    → ScheduleFails e (schedule_of rows seen) → r ≡ schedule_refused e → IsScheduleFault told name rows before after r
+told_schedule_fault told name bytes seen rows before after e r h same f is =
+    subst (IsScheduleFault told name rows before after) (sym is) (inr (schedule_text_fault told name bytes rows e h (subst (λ b. ScheduleFails e (schedule_of rows b)) same f)))
+
+pub told_schedule : (told : List ℕ → Option (List ℕ)) (name bytes seen : List ℕ) (rows : ℕ) (s : Schedule) → Stands told longest_second name bytes → seen ≡ bytes → schedule_of rows seen ≡ Ok s → IsScheduleOf told name rows s
+told_schedule told name bytes seen rows s h same is = record { bytes = bytes; stands = h; says = sym (ap (schedule_of rows) same) ∙ is }
+
+no_schedule : (now old : List ℕ → Option (List ℕ)) (name : List ℕ) (rows : ℕ) (e : ScheduleFault) → ((n : List ℕ) → now n ≡ old n) → IsNoSchedule now name rows e → IsNoSchedule old name rows e
+no_schedule now old name rows e same h = record { bytes = h.bytes; stands = stands now old longest_second name h.bytes same h.stands; says = h.says }
+
+pub schedule_before : (now old : List ℕ → Option (List ℕ)) (name : List ℕ) (rows : ℕ) (s : Schedule) → ((n : List ℕ) → now n ≡ old n) → IsScheduleOf now name rows s → IsScheduleOf old name rows s
+schedule_before now old name rows s same h = record { bytes = h.bytes; stands = stands now old longest_second name h.bytes same h.stands; says = h.says }
+
+schedule_fault_before : (now old : List ℕ → Option (List ℕ)) (name : List ℕ) (rows : ℕ) (r : GameFault) → ((n : List ℕ) → now n ≡ old n) → IsScheduleTextFault now name rows r → IsScheduleTextFault old name rows r
+schedule_fault_before now old name rows (faults.BadInput file at) same h = (h.0, no_schedule now old name rows (schedules.Bad at) same h.1)
+schedule_fault_before now old name rows (faults.Beyond what number) same h = (h.0, no_schedule now old name rows (schedules.Limit what number h.0) same h.1)
+schedule_fault_before now old name rows (faults.TooLong file) same h = absurd h
+schedule_fault_before now old name rows (faults.ReadFault file) same h = absurd h
+schedule_fault_before now old name rows (faults.Shape fault) same h = absurd h
+schedule_fault_before now old name rows faults.NoMemory same h = tt
+
+pub second_schedule_fault : (now old : List ℕ → Option (List ℕ)) (file schedule : List ℕ) (rows : ℕ) (before mid after : Counts) (r : GameFault) → ((n : List ℕ) → now n ≡ old n) → AreLoadsOf old file before mid → AreLoads 1 mid after
+    → IsScheduleFault now schedule rows mid after r → IsSecondFault old file before after (IsScheduleFault old schedule rows before after r)
+second_schedule_fault now old file schedule rows before mid after r same game one h = record {
+  first = game.first;
+  is_first = game.is_first;
+  loads = more (file_count game.first) 1 before mid after game.loads one;
+  fault = elim h [
+    | inl load ↦ inl (load_fault now old longest_second Second schedule before mid after r same game.loads.faults game.loads.overlong load)
+    | inr text ↦ inr (schedule_fault_before now old schedule rows r same text)
   ];
 }

@@ -48,18 +48,18 @@ IsCorrTextFault told name g NoMemory = Unit {0}
 abbrev pub IsCorrFault : (List ℕ → Option (List ℕ)) → List ℕ → DynamicGame → Counts → Counts → GameFault → Type 0
 IsCorrFault told name g before after r = IsLoadFault told longest_second Second name before after r ⊎ IsCorrTextFault told name g r
 
--- the same of the file that is loaded behind those of the game
-pub record IsSecondFault (told : List ℕ → Option (List ℕ)) (file corr : List ℕ) (g : DynamicGame) (before after : Counts) (r : GameFault) : Type 0 where
+-- such a fault of the file that is loaded behind those of the game
+pub record IsSecondFault (told : List ℕ → Option (List ℕ)) (file : List ℕ) (before after : Counts) (IsFault : Type 0) : Type 0 where
   pub first : First
   pub is_first : IsFirst told file first
   pub loads : AreLoads (file_count first + 1) before after
-  pub fault : IsCorrFault told corr g before after r
+  pub fault : IsFault
 
 -- why a check answers nothing: there is no game, or no correspondence
 abbrev pub IsCheckFault : (List ℕ → Option (List ℕ)) → List ℕ → List ℕ → Ratio → Counts → Counts → GameFault → Type 0
 IsCheckFault told file corr discount before after r =
     IsNoGame told file discount before after r
-    ⊎ ((g : DynamicGame) × IsGameOf told file discount g × IsSecondFault told file corr g before after r)
+    ⊎ ((g : DynamicGame) × IsGameOf told file discount g × IsSecondFault told file before after (IsCorrFault told corr g before after r))
 
 -- the correspondence is self-generating, or this is the first entry that isn't generated, and its first broken part
 abbrev pub IsVerdictOn : DynamicGame → Promises → Option CorrFault → Type 0

@@ -8,7 +8,7 @@ use Rattle.game_model.specs.declared.parts.ShapeWhat.TheVariants.{Players, Payof
 use Rattle.game_files.specs.declared.fault.FileId.{FileId}
 use Rattle.game_files.specs.declared.fault.FileId.TheVariants.{First, State, Second}
 use Rattle.solve_run.specs.declared.outcome.Status.{Status}
-use Rattle.solve_run.specs.declared.outcome.Status.TheVariants.{Settled, Holds, Fails, Usage, Spent, BadInput, Shape, TooLong, ReadFault, Beyond, WriteFault, NoMemory}
+use Rattle.solve_run.specs.declared.outcome.Status.TheVariants.{Settled, Holds, Replayed, Made, Fails, Usage, Spent, BadInput, Shape, TooLong, ReadFault, Beyond, WriteFault, NoMemory}
 
 abbrev pub file_text : FileId → List ℕ
 file_text First = codes "first file"
@@ -57,6 +57,8 @@ abbrev pub line_text : Status → Option (List ℕ)
 line_text Settled = None
 line_text (Spent sweeps row) = None
 line_text Holds = None
+line_text Replayed = None
+line_text Made = None
 line_text (Fails fault) = None
 line_text (Usage index) = told (codes "word " ++ decimal index ++ codes " is not understood")
 line_text (BadInput file at) = told (file_text file ++ (codes " is not valid at byte " ++ decimal at))
@@ -70,6 +72,8 @@ line_text NoMemory = told (codes "out of memory")
 abbrev pub exit_code : Status → ℕ
 exit_code Settled = 0
 exit_code Holds = 0
+exit_code Replayed = 0
+exit_code Made = 0
 exit_code (Fails fault) = 1
 exit_code (Usage index) = 2
 exit_code (Spent sweeps row) = 3

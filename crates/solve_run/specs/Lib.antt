@@ -1,8 +1,10 @@
 pub mod Answers
 pub mod Checks
 pub mod Endings
+pub mod Inner
 pub mod Problems
 pub mod Refusals
+pub mod Replays
 pub mod Run
 pub mod Solved
 pub mod Tasks

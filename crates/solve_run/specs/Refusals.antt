@@ -5,7 +5,7 @@ use Rattle.level_table.specs.Problem.{Problem}
 use Rattle.level_table.specs.Tables.{IsFirstBeyond}
 use Rattle.nfg_text.specs.declared.what.What.TheVariants.{Opening}
 use Rattle.pay_words.specs.declared.options.Settings.{Settings}
-use Rattle.pay_words.specs.Command.{Request, solving, checking}
+use Rattle.pay_words.specs.Command.{Request, solving, checking, replaying, making}
 use Rattle.game_files.specs.declared.fault.GameFault.{GameFault}
 use Rattle.game_files.specs.declared.fault.GameFault.TheVariants.{BadInput, TooLong, ReadFault, Shape, Beyond, NoMemory}
 use Rattle.game_files.specs.Loads.{Counts}
@@ -32,3 +32,5 @@ IsSolveFault told file set before after r =
 abbrev pub MayAskFor : (List ℕ → Option (List ℕ)) → (List ℕ → Type 0) → Request → Type 0
 MayAskFor told may (solving file set) = may file × MayAskStates told may file
 MayAskFor told may (checking file corr discount) = may file × MayAskStates told may file × may corr
+MayAskFor told may (replaying file schedule set) = may file × MayAskStates told may file × may schedule
+MayAskFor told may (making seed states workers) = Unit {0}

@@ -6,6 +6,7 @@ use Rattle.level_table.specs.Levels.{opening_table}
 use Rattle.level_table.specs.Tables.{HasSmallOpening}
 use Rattle.pay_words.specs.declared.options.Settings.{Settings}
 use Rattle.game_files.specs.Causes.{IsGameOf}
+use Rattle.solve_run.specs.Inner.{IsInnerShown, inner_number}
 use Rattle.solve_run.specs.Problems.{problem_in}
 use Rattle.report_text.specs.ReportText.{discount_at}
 use Rattle.report_text.specs.declared.report.Report.{Report}
@@ -27,9 +28,10 @@ pub record IsReportOf (p : Problem) (slack budget : ℕ) (report : Report) : Typ
   pub slack_shown : report.slack ≡ slack
   pub run : IsRunFrom p (opening_table p) [] slack budget (run_of report)
 
--- The report is that of the game that the files make, with these settings.
+-- The report is that of the game that the files make, with these settings, and shows its inner sets.
 pub record IsAnswer (told : List ℕ → Option (List ℕ)) (file : List ℕ) (set : Settings) (report : Report) : Type 0 where
   pub game : DynamicGame
   pub is_game : IsGameOf told file set.discount game
   pub small : HasSmallOpening (problem_in game set)
   pub is_report : IsReportOf (problem_in game set) set.slack set.budget report
+  pub inner : IsInnerShown game (inner_number set.inner) report.inner report.numbers

@@ -7,17 +7,19 @@ ghost use Rattle.report_text.specs.ReportText.{IsPrintable};
 ghost use Rattle.game_files.specs.Loads.{counts_of};
 ghost use Rattle.game_files.specs.Files.{MayAskStates};
 ghost use Rattle.solve_run.specs.Refusals.{IsSolveFault, MayAskFor};
-ghost use Rattle.solve_run.specs.Answers.{IsAnswerTo, IsFaultOf, CanBeTold};
+ghost use Rattle.solve_run.specs.Answers.{IsAnswerTo, IsFaultOf, IsUnasked, CanBeTold};
 ghost use Rattle.solve_run.specs.Solved.{IsAnswer};
 ghost use Rattle.solve_run.specs.Tasks.{HasLimits, last_name, request_in};
 
 use crate::checking::checked;
+use crate::replaying::replayed;
 use crate::solve::report_on;
 use crate::task::{Task, name_in};
 use game_files::{GameFault, read_game};
+use make_run::{Made, make};
 use pay_outside::{Gate, Shelf};
 use pay_words::Settings;
-use report_text::Report;
+use report_text::{Replay, Report};
 use selfgen_check::CorrFault;
 use std::alloc::Global;
 use std::thread::Threads;
@@ -29,6 +31,10 @@ pub enum Answer {
     Solved(Report),
     /// The first fault of a correspondence: none where it is self-generating.
     Checked(Option<CorrFault>),
+    /// What the moves of a schedule made of the opening.
+    Ran(Replay),
+    /// The numbers of a game that was made.
+    Drawn(Made),
 }
 
 /// The answer to what the words ask for, or why there is none.
@@ -49,6 +55,10 @@ pub(crate) fn answer_of<R: Threads + Sync, S: Shelf, G: Gate + Sync>(
         (counts_of S.faults S.overlong S.loads shelf.old)
         (counts_of S.faults S.overlong S.loads shelf.new)
         (request_in (words_in words.now) task.now)) }
+    ensures unasked { IsUnasked
+        (counts_of S.faults S.overlong S.loads shelf.old)
+        (counts_of S.faults S.overlong S.loads shelf.new)
+        (request_in (words_in words.now) task.now) }
 {
     match task {
         Task::Solve(set) => match solve(rt, alloc, name_in(words, 1), set, shelf, gate) {
@@ -61,6 +71,20 @@ pub(crate) fn answer_of<R: Threads + Sync, S: Shelf, G: Gate + Sync>(
                 Err(fault) => Err(fault),
             }
         }
+        Task::Replay(set) => {
+            match replayed(alloc, shelf, name_in(words, 1), name_in(words, 2), set) {
+                Ok(replay) => Ok(Answer::Ran(replay)),
+                Err(fault) => Err(fault),
+            }
+        }
+        Task::Make {
+            seed,
+            states,
+            workers,
+        } => match make(rt, alloc, *seed, *states, *workers, gate) {
+            Ok(made) => Ok(Answer::Drawn(made)),
+            Err(_) => Err(GameFault::NoMemory),
+        },
     }
 }
 

@@ -16,7 +16,12 @@ pub fn line_of(alloc: Global, status: Status) -> Result<Option<String>, AllocErr
     ensures { IfOk result (λ line. option_map string_bytes line ≡ line_text status) }
 {
     match status {
-        Status::Settled | Status::Holds | Status::Fails { .. } | Status::Spent { .. } => Ok(None),
+        Status::Settled
+        | Status::Holds
+        | Status::Replayed
+        | Status::Made
+        | Status::Fails { .. }
+        | Status::Spent { .. } => Ok(None),
         Status::Usage { index } => Ok(Some(format!(in alloc;
             "payoff: word {index} is not understood"
         )?)),
@@ -132,6 +137,8 @@ pub fn exit_of(status: Status) -> u8
     match status {
         Status::Settled => 0,
         Status::Holds => 0,
+        Status::Replayed => 0,
+        Status::Made => 0,
         Status::Fails { .. } => 1,
         Status::Usage { .. } => 2,
         Status::Spent { .. } => 3,
@@ -164,6 +171,8 @@ mod tests {
             ),
             (Status::Spent { sweeps: 3, row: 1 }, None, 3),
             (Status::Holds, None, 0),
+            (Status::Replayed, None, 0),
+            (Status::Made, None, 0),
             (
                 Status::Fails {
                     fault: CorrFault {

@@ -43,22 +43,24 @@ const FALL: File = (
     b"DYN 1 \"f\" { { \"a\" \"a.nfg\" { 1 } } { \"b\" \"nil.nfg\" { 1 } } }",
 );
 
-const AT_HALF: [&str; 6] = [
+const AT_HALF: [&str; 7] = [
     "solve",
     "first",
     "discount=1/2",
     "directions=4",
     "grid=4",
     "workers=1",
+    "inner=0",
 ];
 
-const AT_A_THIRD: [&str; 6] = [
+const AT_A_THIRD: [&str; 7] = [
     "solve",
     "first",
     "discount=1/3",
     "directions=4",
     "grid=4",
     "workers=1",
+    "inner=0",
 ];
 
 /// A call with these words over a shelf with these files, some of whose loads fail, and what its sink took.
@@ -95,7 +97,16 @@ fn dynamic_games_are_solved(rt: HostRuntime) -> Result<(), Fail> {
         "directions=4",
         "grid=4",
         "workers=1",
+        "inner=0",
         "budget=8",
+    ];
+    let inner = [
+        "solve",
+        "first",
+        "discount=1/2",
+        "directions=4",
+        "grid=4",
+        "inner=2",
     ];
     for (words, files, status, text) in [
         (
@@ -115,6 +126,12 @@ fn dynamic_games_are_solved(rt: HostRuntime) -> Result<(), Fail> {
             &[SINK, ONES, PENNIES][..],
             Status::Spent { sweeps: 1, row: 0 },
             &b"payoff 1\nstatus spent\nplayers 2\nstates 2\ndirections 4\ndiscount 1/2\nunit 16\nslack 1\nsweeps 1\nsolves 8\nrow 0 0 16\nrow 0 1 0\nrow 0 2 16\nrow 0 3 0\nrow 1 0 empty\nrow 1 1 empty\nrow 1 2 empty\nrow 1 3 empty\nstop 0 0 16 none\nempty 1\nwhy 1 0 farkas level 2 0 1 gain 1 1 16 1\nwhy 1 1 farkas level 0 16 1 gain 0 0 0 1\nwhy 1 2 farkas level 0 16 1 gain 0 1 0 1\nwhy 1 3 farkas level 2 0 1 gain 1 0 16 1\nend\n"[..],
+        ),
+        (
+            &inner[..],
+            &[SINK, ONES, PENNIES][..],
+            Status::Settled,
+            &b"payoff 1\nstatus settled\nplayers 2\nstates 2\ndirections 4\ndiscount 1/2\nunit 16\nslack 1\nsweeps 2\nsolves 16\nrow 0 0 empty\nrow 0 1 empty\nrow 0 2 empty\nrow 0 3 empty\nrow 1 0 empty\nrow 1 1 empty\nrow 1 2 empty\nrow 1 3 empty\nempty 1\nwhy 1 0 farkas level 2 0 1 gain 1 1 16 1\nwhy 1 1 farkas level 0 16 1 gain 0 0 0 1\nwhy 1 2 farkas level 0 16 1 gain 0 1 0 1\nwhy 1 3 farkas level 2 0 1 gain 1 0 16 1\nempty 0\nwhy 0 0 successor 1\nset 0 0\nset 1 0\nend\n"[..],
         ),
     ] {
         let mut sink = MemSink::new(alloc, 1000, Vec::new(alloc))?;

@@ -4,7 +4,9 @@
 mod answer;
 mod checking;
 mod ending;
+mod inner;
 mod outcome;
+mod replaying;
 mod run;
 mod solve;
 mod task;
@@ -19,5 +21,9 @@ pub use run::payoff_run;
 mod check_tests;
 #[cfg(test)]
 mod file_tests;
+#[cfg(test)]
+mod make_tests;
+#[cfg(test)]
+mod replay_tests;
 #[cfg(test)]
 mod tests;

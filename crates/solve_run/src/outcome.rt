@@ -1,7 +1,8 @@
 use game_files::FileId;
 use game_model::ShapeFault;
+use make_run::Made;
 use nfg_text::What;
-use report_text::Report;
+use report_text::{Replay, Report};
 use selfgen_check::CorrFault;
 
 /// How a call ended.
@@ -11,6 +12,10 @@ pub enum Status {
     Settled,
     /// The correspondence is self-generating, and the whole line was taken.
     Holds,
+    /// The moves of the schedule were made, and the whole text was taken.
+    Replayed,
+    /// A game was made and solved, and the whole text was taken.
+    Made,
     /// The first entry of the correspondence that isn't generated, and its first broken part; the whole line was taken.
     Fails { fault: CorrFault },
     /// The words have no settings: the first word that doesn't fit, or the number of words where one is
@@ -35,9 +40,14 @@ pub enum Status {
     NoMemory,
 }
 
-/// What a call leaves: how it ended, and the report where one was made.
+/// What a call leaves: how it ended, and what it made whose text was offered.
 #[derive(Drop)]
 pub struct Outcome {
     pub status: Status,
+    /// The report of `solve`.
     pub report: Option<Report>,
+    /// The words and notes of `replay`.
+    pub replay: Option<Replay>,
+    /// The numbers of `make`.
+    pub made: Option<Made>,
 }

@@ -5,10 +5,12 @@ ghost use Rattle.level_table.specs.Problem.{problem_of};
 ghost use Rattle.level_table.specs.Tables.{HasSmallOpening, IsOpening};
 ghost use Rattle.pay_words.specs.Options.{AreWithinLimits};
 ghost use Rattle.report_text.specs.ReportText.{IsPrintable, discount_at};
-ghost use Rattle.solve_run.specs.Problems.{directions_of, problem_in};
+ghost use Rattle.solve_run.specs.Inner.{IsInnerShown, inner_number};
+ghost use Rattle.solve_run.specs.Problems.{directions_of, problem_in, rows_in};
 ghost use Rattle.solve_run.specs.Refusals.{IsOpeningFault};
 ghost use Rattle.solve_run.specs.Solved.{IsReportOf};
 
+use crate::inner::inner_of;
 use direction_set::Directions;
 use game_files::GameFault;
 use game_model::{Game, List};
@@ -24,7 +26,10 @@ use sweep_run::run_sweeps;
 /// How many directions bound a game of two players where no word says it.
 const USUAL_DIRECTIONS: u32 = 16;
 
-/// Bounds the payoff set of a game.
+/// Into how many steps the inner sets of a game of two players divide each range of payoffs where no word says it.
+const USUAL_INNER: u32 = 16;
+
+/// Bounds the payoff set of a game from outside, and gives its inner sets.
 ///
 /// # Errors
 ///
@@ -40,23 +45,43 @@ pub(crate) fn report_on<R: Threads + Sync, G: Gate + Sync>(
     requires players { game.now.players ≡ 2 }
     ensures solved { IfOk result (IsReportOf (problem_in game.now set.now) set.now.slack set.now.budget) }
     ensures small { OnOk result (HasSmallOpening (problem_in game.now set.now)) }
+    ensures inner { IfOk result (λ r. IsInnerShown game.now (inner_number set.now.inner) r.inner r.numbers) }
     ensures printable { IfOk result IsPrintable }
     ensures why { IfErr result (IsOpeningFault (problem_in game.now set.now)) }
 {
     let dirs = directions(set);
-    let start = match opening(alloc, game, &dirs, set.grid) {
-        Ok(levels) => levels,
-        Err(OpeningFault::NoMemory) => return Err(GameFault::NoMemory),
-        Err(OpeningFault::Beyond { number }) => {
-            return Err(GameFault::Beyond {
-                what: What::Opening,
-                number,
-            });
-        }
-    };
+    let start = opening_of(alloc, game, &dirs, set.grid)?;
     match reported(rt, alloc, game, &dirs, start, set, gate) {
         Ok(report) => Ok(report),
         Err(_) => Err(GameFault::NoMemory),
+    }
+}
+
+/// The opening table of a game.
+pub(crate) fn opening_of(
+    alloc: Global,
+    game: &Game,
+    dirs: &Directions,
+    grid: u32,
+) -> Result<LevelTable, GameFault>
+    requires players { dirs.now.players ≡ game.now.players }
+    requires grid { grid ≤ 30 }
+    ensures opened { IfOk result (IsOpening (problem_of game.now dirs.now grid)) }
+    ensures small { OnOk result (HasSmallOpening (problem_of game.now dirs.now grid)) }
+    ensures rows { IfOk result (λ t. length t.levels ≡ rows_in (problem_of game.now dirs.now grid)) }
+    ensures why { IfErr result (IsOpeningFault (problem_of game.now dirs.now grid)) }
+{
+    let _problem = Problem::new(game, dirs, grid);
+    match opening(alloc, game, dirs, grid) {
+        Ok(levels) => {
+            levels.states();
+            Ok(levels)
+        }
+        Err(OpeningFault::NoMemory) => Err(GameFault::NoMemory),
+        Err(OpeningFault::Beyond { number }) => Err(GameFault::Beyond {
+            what: What::Opening,
+            number,
+        }),
     }
 }
 
@@ -70,17 +95,18 @@ fn reported<R: Threads + Sync, G: Gate + Sync>(
     set: &Settings,
     gate: &G,
 ) -> Result<Report, AllocError>
+    requires limits { AreWithinLimits set.now }
+    requires two { game.now.players ≡ 2 }
     requires players { dirs.now.players ≡ game.now.players }
-    requires grid { set.now.grid ≤ 30 }
     requires opening { IsOpening (problem_of game.now dirs.now set.now.grid) start }
-    requires slack { 1 ≤ set.now.slack }
     ensures solved { IfOk result (IsReportOf (problem_of game.now dirs.now set.now.grid) set.now.slack set.now.budget) }
-    ensures small { OnOk result (HasSmallOpening (problem_of game.now dirs.now set.now.grid)) }
+    ensures inner { IfOk result (λ r. IsInnerShown game.now (inner_number set.now.inner) r.inner r.numbers) }
     ensures printable { IfOk result IsPrintable }
 {
     let p = Problem::new(game, dirs, set.grid);
     let discounts = discounts_of(alloc, game)?;
     let run = run_sweeps(rt, alloc, game, dirs, start, set, gate)?;
+    let inner = inner_of(rt, alloc, game, inner_steps(set))?;
     Ok(Report {
         players: p.players(),
         states: p.states(),
@@ -92,11 +118,13 @@ fn reported<R: Threads + Sync, G: Gate + Sync>(
         levels: run.levels,
         verdict: run.verdict,
         notes: run.notes,
+        inner: inner.sets,
+        numbers: inner.numbers,
     })
 }
 
 /// The directions of the settings, for two players.
-fn directions(set: &Settings) -> Directions
+pub(crate) fn directions(set: &Settings) -> Directions
     requires { AreWithinLimits set.now }
     ensures table { result ≡ directions_of set.now }
 {
@@ -105,6 +133,18 @@ fn directions(set: &Settings) -> Directions
         None => USUAL_DIRECTIONS,
     };
     Directions::of(2, count).unwrap()
+}
+
+/// Into how many steps the inner sets divide each player's range of payoffs; there are no inner sets at 0.
+fn inner_steps(set: &Settings) -> u32
+    requires { AreWithinLimits set.now }
+    ensures number { result ≡ inner_number set.now.inner }
+    ensures few { result ≤ 16 }
+{
+    match set.inner {
+        Some(steps) => steps,
+        None => USUAL_INNER,
+    }
 }
 
 /// Each player's discount factor.

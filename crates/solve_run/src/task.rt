@@ -12,6 +12,12 @@ use pay_words::{Command, Settings, UsageFault, command_of};
 pub enum Task {
     Solve(Settings),
     Check(Frac),
+    Replay(Settings),
+    Make {
+        seed: u32,
+        states: u32,
+        workers: u32,
+    },
 }
 
 /// The command of the words.
@@ -35,6 +41,16 @@ fn task_in(command: &Command) -> Task
     match command {
         Command::Solve { set, .. } => Task::Solve(*set),
         Command::Check { discount, .. } => Task::Check(*discount),
+        Command::Replay { set, .. } => Task::Replay(*set),
+        Command::Make {
+            seed,
+            states,
+            workers,
+        } => Task::Make {
+            seed: *seed,
+            states: *states,
+            workers: *workers,
+        },
     }
 }
 

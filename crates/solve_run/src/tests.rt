@@ -42,21 +42,43 @@ const OUT_OF_ORDER: [&str; 7] = [
     "discount=.5",
 ];
 
-const SLACK_2: [&str; 7] = [
+const SLACK_2: [&str; 8] = [
     "solve",
     "pd.nfg",
     "discount=1/2",
     "directions=4",
     "grid=4",
     "workers=1",
+    "inner=0",
     "slack=2",
 ];
 
-const EIGHT_DIRECTIONS: [&str; 5] = ["solve", "pd.nfg", "discount=1/2", "directions=8", "grid=0"];
+const EIGHT_DIRECTIONS: [&str; 6] = [
+    "solve",
+    "pd.nfg",
+    "discount=1/2",
+    "directions=8",
+    "grid=0",
+    "inner=0",
+];
 
-const GRID_16: [&str; 5] = ["solve", "pd.nfg", "discount=1/2", "directions=4", "grid=16"];
+const GRID_16: [&str; 6] = [
+    "solve",
+    "pd.nfg",
+    "discount=1/2",
+    "directions=4",
+    "grid=16",
+    "inner=0",
+];
 
-const GRID_30: [&str; 5] = ["solve", "pd.nfg", "discount=1/2", "directions=4", "grid=30"];
+const GRID_30: [&str; 6] = [
+    "solve",
+    "pd.nfg",
+    "discount=1/2",
+    "directions=4",
+    "grid=30",
+    "inner=0",
+];
 
 const AT_NINE_TENTHS: [&str; 7] = [
     "solve",
@@ -223,6 +245,7 @@ fn more_directions_are_spent(rt: HostRuntime) -> Result<(), Fail> {
         "discount=1/2",
         "directions=8",
         "grid=4",
+        "inner=0",
         "budget=0",
     ];
     let status = run(&rt, alloc, &words, Some(PD.to_vec(alloc)?), &mut sink)?;
@@ -320,6 +343,91 @@ fn output_that_fails_is_told(rt: HostRuntime) -> Result<(), Fail> {
     Ok(())
 }
 
+/// The words of the first example, with inner sets.
+const INNER_AT_HALF: [&str; 7] = [
+    "solve",
+    "pd.nfg",
+    "discount=1/2",
+    "directions=4",
+    "grid=4",
+    "workers=1",
+    "inner=1",
+];
+
+const INNER_BELOW_HALF: [&str; 7] = [
+    "solve",
+    "pd.nfg",
+    "discount=49/100",
+    "directions=4",
+    "grid=4",
+    "workers=1",
+    "inner=1",
+];
+
+const FINE_INNER: [&str; 7] = [
+    "solve",
+    "pd.nfg",
+    "discount=1/2",
+    "directions=4",
+    "grid=4",
+    "workers=1",
+    "inner=16",
+];
+
+#[test]
+fn inner_sets_are_printed(rt: HostRuntime) -> Result<(), Fail> {
+    let alloc = rt.alloc();
+    for (content, words, end) in [
+        // Cooperation, whose incentive binds exactly, and defection.
+        (
+            PD,
+            &INNER_AT_HALF,
+            &b"\nset 0 2\nentry 0 0 1 1 profile 3 lottery 0:1 punish 0 0\nentry 0 1 2 2 profile 0 lottery 1:1 punish 0 0\nend\n"[..],
+        ),
+        // Cooperation is gone.
+        (
+            PD,
+            &INNER_BELOW_HALF,
+            &b"\nset 0 1\nentry 0 0 1 1 profile 3 lottery 0:1 punish 0 0\nend\n"[..],
+        ),
+        (MP, &INNER_AT_HALF, &b"\nset 0 0\nend\n"[..]),
+        (
+            ONE,
+            &FINE_INNER,
+            &b"\npoint 0 3 0 16 32\nset 0 1\nentry 0 0 1 2 profile 0 lottery 0:1 punish\nend\n"[..],
+        ),
+    ] {
+        let mut sink = MemSink::new(alloc, 1000, Vec::new(alloc))?;
+        let status = run(&rt, alloc, words, Some(content.to_vec(alloc)?), &mut sink)?;
+        assert_eq!(rt; status, Status::Settled);
+        assert!(rt; sink.taken().ends_with(end));
+    }
+    Ok(())
+}
+
+#[test]
+fn inner_sets_are_fine_by_default(rt: HostRuntime) -> Result<(), Fail> {
+    let alloc = rt.alloc();
+    let words = ["solve", "pd.nfg", "discount=9/10"];
+    let mut sink = MemSink::new(alloc, 100_000, Vec::new(alloc))?;
+    let content = SELTEN.to_vec(alloc)?;
+    run(&rt, alloc, &words, Some(content), &mut sink)?;
+    assert!(rt;
+        !split_at_first(sink.taken(), b"\ndirections 16\n")
+            .1
+            .is_empty()
+    );
+    // Parts in eighths are those of a lattice of 16 steps from 0 to 2, in sixteenths those from 0 to 3.
+    let sets = split_at_first(sink.taken(), b"\nset 0 ").1;
+    assert!(rt;
+        !split_at_first(sets, b" 1 1 profile 0 lottery ")
+            .1
+            .is_empty()
+    );
+    assert!(rt; !split_at_first(sets, b"/16 profile ").1.is_empty());
+    Ok(())
+}
+
 /// What stands in a text before the first place of another, and from there on.
 fn split_at_first<'t>(text: &'t [u8], mark: &[u8]) -> (&'t [u8], &'t [u8]) {
     for at in 0..text.len() {
@@ -345,13 +453,16 @@ fn compare<R: Threads + Sync + Abort>(
     directions: &str,
     workers: &str,
 ) -> Result<(), Fail> {
-    let words = ["solve", "pd.nfg", discount, directions, "grid=4", workers];
+    let words = [
+        "solve", "pd.nfg", discount, directions, "grid=4", "inner=0", workers,
+    ];
     let alone = [
         "solve",
         "pd.nfg",
         discount,
         directions,
         "grid=4",
+        "inner=0",
         "workers=1",
     ];
     let mut one = MemSink::new(alloc, 100, Vec::new(alloc))?;

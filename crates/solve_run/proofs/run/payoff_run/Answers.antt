@@ -3,7 +3,7 @@ use Rattle.pay_words.specs.Command.{Request, words_in}
 use Rattle.game_files.specs.Loads.{Counts, counts_of}
 use Rattle.solve_run.specs.declared.outcome.Outcome.{Outcome}
 use Rattle.solve_run.specs.declared.outcome.Status.TheVariants.{Usage}
-use Rattle.solve_run.specs.Run.{IsRight, IsThrough, refused_as}
+use Rattle.solve_run.specs.Run.{IsRight, IsThrough, alone, refused_as}
 use Rattle.solve_run.specs.Tasks.{request_in}
 use Rattle.solve_run.specs.Writing.{Taking, taking_of}
 use Rattle.solve_run.proofs.Ends.{answer_is_end, fault_is_through, refusal_is_end, telling_is_through}
@@ -11,7 +11,7 @@ use Rattle.solve_run.proofs.run.payoff_run.Goals as goal
 
 pub returns-in-Err-clause-misfit : goal.returns-in-Err-clause-misfit
 returns-in-Err-clause-misfit g c index m =
-    ap (λ (o : Outcome). o.status) c.refused.ensures ∙ ap (λ n. Usage n) (c.command_laws.ensures.one_misfit (words_in c.args.words.now) c.in-Err.fault.index index c.in-Err.ensures.misfit m)
+    ap (λ (o : Outcome). o.status) c.alone.ensures ∙ ap (λ n. Usage n) (c.command_laws.ensures.one_misfit (words_in c.args.words.now) c.in-Err.fault.index index c.in-Err.ensures.misfit m)
 
 pub returns-in-Err-answer_of-clause-causes : goal.returns-in-Err-answer_of-clause-causes
 returns-in-Err-answer_of-clause-causes g c =
@@ -21,16 +21,15 @@ returns-in-Err-answer_of-clause-causes g c =
     let before : Counts = counts_of g.S.Shelf.faults g.S.Shelf.overlong g.S.Shelf.loads c.args.shelf.now in
     let after : Counts = counts_of g.S.Shelf.faults g.S.Shelf.overlong g.S.Shelf.loads c.answer_of.new.shelf in
     let sink : Taking = taking_of g.K.Sink.taken g.K.Sink.faults c.args.sink.now c.args.sink.now in
-    let end = c.refused-in-Err-answer_of.ensures in
+    let end = c.alone-in-Err-answer_of.ensures in
     inr (
       request,
       c.in-Ok.ensures.asks,
-      refusal_is_end (g.S.Shelf.bytes c.args.shelf.now) before after sink c.refused-in-Err-answer_of.result.report c.refused-in-Err-answer_of.result.status request (record {
+      refusal_is_end (g.S.Shelf.bytes c.args.shelf.now) before after sink c.alone-in-Err-answer_of.result request c.answer_of.ensures.unasked (record {
         fault = fault;
         is_fault = c.in-Err-answer_of.ensures.why;
-        status_is = ap (λ (o : Outcome). o.status) end ∙ c.status_of_fault.ensures;
+        end_is = end ∙ ap alone c.status_of_fault.ensures;
         nothing = record { taken = refl; faults = refl };
-        none = ap (λ (o : Outcome). o.report) end;
       }),
     )
 
@@ -43,7 +42,7 @@ returns-in-Err-answer_of-clause-complete g c request is right calm quiet =
     let before : Counts = counts_of g.S.Shelf.faults g.S.Shelf.overlong g.S.Shelf.loads c.args.shelf.now in
     let after : Counts = counts_of g.S.Shelf.faults g.S.Shelf.overlong g.S.Shelf.loads c.answer_of.new.shelf in
     let same : request ≡ asked = c.command_laws.ensures.one_command words request asked is c.in-Ok.ensures.asks in
-    let status : c.refused-in-Err-answer_of.result.status ≡ refused_as fault = ap (λ (o : Outcome). o.status) c.refused-in-Err-answer_of.ensures ∙ c.status_of_fault.ensures in
+    let status : c.alone-in-Err-answer_of.result.status ≡ refused_as fault = ap (λ (o : Outcome). o.status) c.alone-in-Err-answer_of.ensures ∙ c.status_of_fault.ensures in
     subst IsThrough (sym status) (fault_is_through told before after asked fault c.game_laws.ensures (subst (IsRight told) same right) c.in-Err-answer_of.ensures.why calm)
 
 pub returns-in-Err-answer_of-clause-misfit : goal.returns-in-Err-answer_of-clause-misfit
@@ -59,12 +58,12 @@ returns-in-Ok-answer_of-clause-causes g c =
     let before : Counts = counts_of g.S.Shelf.faults g.S.Shelf.overlong g.S.Shelf.loads c.args.shelf.now in
     let after : Counts = counts_of g.S.Shelf.faults g.S.Shelf.overlong g.S.Shelf.loads c.answer_of.new.shelf in
     let sink : Taking = taking_of g.K.Sink.taken g.K.Sink.faults c.args.sink.now c.finish.new.sink in
-    inr (request, c.in-Ok.ensures.asks, answer_is_end (g.S.Shelf.bytes c.args.shelf.now) before after sink c.finish.result.report c.finish.result.status request answer c.in-Ok-answer_of.ensures.found c.finish.ensures)
+    inr (request, c.in-Ok.ensures.asks, answer_is_end (g.S.Shelf.bytes c.args.shelf.now) before after sink c.finish.result request answer c.answer_of.ensures.unasked c.in-Ok-answer_of.ensures.found c.finish.ensures)
 
 pub returns-in-Ok-answer_of-clause-complete : goal.returns-in-Ok-answer_of-clause-complete
 returns-in-Ok-answer_of-clause-complete g c request is right calm quiet =
     let sink : Taking = taking_of g.K.Sink.taken g.K.Sink.faults c.args.sink.now c.finish.new.sink in
-    telling_is_through c.in-Ok-answer_of.answer sink c.finish.result.report c.finish.result.status c.finish.ensures quiet
+    telling_is_through c.in-Ok-answer_of.answer sink c.finish.result c.finish.ensures quiet
 
 pub returns-in-Ok-answer_of-clause-misfit : goal.returns-in-Ok-answer_of-clause-misfit
 returns-in-Ok-answer_of-clause-misfit g c index m =
