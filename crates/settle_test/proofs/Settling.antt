@@ -22,7 +22,7 @@ use Rattle.set_operator.specs.Answers.{IsLevelAnswer}
 use Rattle.set_operator.specs.Boxes.{point_of}
 use Rattle.lp_core.specs.declared.Point.{Point}
 use Rattle.set_operator.specs.declared.row.Support.{Support}
-use Rattle.settle_test.specs.Verdicts.{AreSupports, AreSupported, IsReadyAt, IsRowVerdict, IsVerdict, state_of, direction_of}
+use Rattle.settle_test.specs.Verdicts.{AreSupports, AreSupported, FailsAt, IsReadyAt, IsRowVerdict, IsVerdict, NoneFails, state_of, direction_of}
 use Rattle.set_operator.specs.Prepared.{IsPrepared, PreparedState}
 use Rattle.std.proofs.lemmas.List.{length-append}
 use Rattle.settle_test.specs.declared.settle.RowVerdict.TheVariants.{Fine, Unsupported}
@@ -195,3 +195,11 @@ made_ready p t q row level is ready =
   where
     apart : {z : ℤ} → Empty ≡ At z → ⊥
     apart e = cc
+
+-- one row more that doesn't fail
+pub none_more : (p : Problem) (t : Table) (slack from row : ℕ) → NoneFails p t slack from row → (FailsAt p t slack row → ⊥) → NoneFails p t slack from (row + 1)
+none_more p t slack from row none here r above before below fails =
+    ⊎_elim
+    (λ (lt : r < row). none r above lt below fails)
+    (λ (ge : row ≤ r). let e : r ≡ row = omega arith in here (subst (FailsAt p t slack) e fails))
+    (cases_lt r row)

@@ -1,5 +1,5 @@
 -- What the settling test says of rows and of a table.
-use Rattle.std.specs.Prelude.{◌≡◌, ◌⊎◌, ℕ, zero, suc, ◌/◌, ◌%◌, ◌<◌, ◌++◌, List, [], length, Option, Some, None, ℤ, pos, ◌-ℤ◌, ◌*ℤ◌, ◌<ℤ◌}
+use Rattle.std.specs.Prelude.{◌≡◌, ◌⊎◌, ℕ, zero, suc, ◌+◌, ◌/◌, ◌%◌, ◌<◌, ◌≤◌, ◌++◌, List, [], length, Option, Some, None, ℤ, pos, ◌-ℤ◌, ◌*ℤ◌, ◌<ℤ◌}
 use Rattle.std.specs.Option.{option_to_list}
 use Rattle.pay_frac.specs.Ratio.{Ratio, IsLowest, Equals}
 use Rattle.level_table.specs.declared.level.Level.TheVariants.{Empty, At}
@@ -73,6 +73,15 @@ pub record FailsAt (p : Problem) (t : Table) (slack row : ℕ) : Type 0 where
   pub level : ℤ
   pub here : level_at t row ≡ At level
   pub none : HasValueAbove p (levels_in t) (state_of p row) (direction_of p row) (level -ℤ pos slack) → ⊥
+
+-- none of the rows from one on to below another fails
+abbrev pub NoneFails : Problem → Table → ℕ → ℕ → ℕ → Type 0
+NoneFails p t slack from end = (row : ℕ) → from ≤ row → row < end → row < length t.levels → FailsAt p t slack row → ⊥
+
+-- the first of so many rows from one on that fails, or none
+abbrev pub IsFailingRow : Problem → Table → ℕ → ℕ → ℕ → Option ℕ → Type 0
+IsFailingRow p t slack from count None = NoneFails p t slack from (from + count)
+IsFailingRow p t slack from count (Some row) = (from ≤ row) × (row < from + count) × (row < length t.levels) × FailsAt p t slack row × NoneFails p t slack from row
 
 -- the row is Empty, or its state is ready
 abbrev pub IsReadyAt : Problem → Table → PreparedState → ℕ → Type 0

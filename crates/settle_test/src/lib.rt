@@ -5,4 +5,4 @@ mod parts;
 mod settle;
 
 pub use parts::{settled, settled_by_states};
-pub use settle::{choice_laws, fails_at, verdict_of};
+pub use settle::{choice_laws, failing_row, verdict_of};

@@ -11,7 +11,7 @@ ghost use Rattle.level_table.specs.Problem.{direction_count};
 ghost use Rattle.level_table.specs.Reasons.{IsGainRow};
 ghost use Rattle.level_table.specs.Supported.{IsEven};
 ghost use Rattle.level_table.specs.Tables.{HasSmallOpening, IsSmallTable};
-ghost use Rattle.settle_test.specs.Verdicts.{FailsAt, IsReadyAt, IsRowVerdict, IsVerdict};
+ghost use Rattle.settle_test.specs.Verdicts.{FailsAt, IsFailingRow, IsReadyAt, IsRowVerdict, IsVerdict};
 
 use game_model::List;
 use level_table::{Level, LevelTable, Problem};
@@ -53,27 +53,32 @@ pub fn verdict_of(
     Ok(Verdict::Supported(supports))
 }
 
-/// Whether the row has a level in units of `1/E` and no admissible value above that level less the slack. No memory
-/// is taken.
-pub fn fails_at(
+/// The first of so many rows from this one on that has a level in units of `1/E` and no admissible value above that
+/// level less the slack. No memory is taken.
+pub fn failing_row(
     p: &Problem,
     levels: &LevelTable,
     slack: u64,
     prepared: &mut Prepared,
-    row: u32,
-) -> bool
+    from: u32,
+    count: u32,
+) -> Option<u32>
     requires table { IsSmallTable p.now levels.now }
     requires opening { HasSmallOpening p.now }
+    requires even { IsEven p.now (levels_in levels.now) }
     requires room { HasRoomFor p.now.game prepared.old.room }
-    requires row { row < length levels.now.levels }
-    ensures fails { IsTrue result ↔ FailsAt p.now levels.now slack row }
+    ensures failing { IsFailingRow p.now levels.now slack from count result }
     ensures room { prepared.new.room ≡ prepared.old.room }
 {
-    make_ready(p, levels, prepared, row);
-    match row_verdict(p, levels, slack, prepared, row) {
-        RowVerdict::Fine(_) => false,
-        RowVerdict::Unsupported { .. } => true,
+    levels.states();
+    let end = from.saturating_add(count).min(levels.rows());
+    for row in from..end {
+        begin_at(p, levels, prepared, from, row);
+        if fails(p, levels, slack, prepared, row) {
+            return Some(row);
+        }
     }
+    None
 }
 
 /// A law: a table leaves no choice of the profile of a support, nor of the strategy of a gain row.
@@ -96,6 +101,23 @@ pub(crate) fn begin_state(p: &Problem, levels: &LevelTable, prepared: &mut Prepa
 {
     if row % p.directions() == 0 {
         make_ready(p, levels, prepared, row);
+    }
+}
+
+/// Makes the state of its first row ready, or of the row where a search begins.
+fn begin_at(p: &Problem, levels: &LevelTable, prepared: &mut Prepared, from: u32, row: u32)
+    requires table { IsSmallTable p.now levels.now }
+    requires opening { HasSmallOpening p.now }
+    requires room { HasRoomFor p.now.game prepared.old.room }
+    requires row { row < length levels.now.levels }
+    requires before { (row ≡ from) ⊎ ((row % direction_count p.now ≡ 0) ⊎ IsReadyAt p.now levels.now prepared.old row) }
+    ensures ready { IsReadyAt p.now levels.now prepared.new row }
+    ensures room { prepared.new.room ≡ prepared.old.room }
+{
+    if row == from {
+        make_ready(p, levels, prepared, row);
+    } else {
+        begin_state(p, levels, prepared, row);
     }
 }
 
@@ -152,6 +174,20 @@ pub(crate) fn row_verdict(
     match levels.get(row) {
         Level::Empty => RowVerdict::Fine(None),
         Level::At(level) => finite_verdict(p, levels, slack, prepared, row, level),
+    }
+}
+
+/// Whether a row fails.
+fn fails(p: &Problem, levels: &LevelTable, slack: u64, prepared: &Prepared, row: u32) -> bool
+    requires table { IsSmallTable p.now levels.now }
+    requires opening { HasSmallOpening p.now }
+    requires row { row < length levels.now.levels }
+    requires ready { IsReadyAt p.now levels.now prepared.now row }
+    ensures { IsTrue result ↔ FailsAt p.now levels.now slack row }
+{
+    match row_verdict(p, levels, slack, prepared, row) {
+        RowVerdict::Fine(_) => false,
+        RowVerdict::Unsupported { .. } => true,
     }
 }
 

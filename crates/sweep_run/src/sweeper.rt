@@ -18,10 +18,13 @@ use level_board::{Board, Owner};
 use level_table::{LevelTable, Notes};
 use pay_outside::Gate;
 use set_operator::{Prepared, Verdict};
-use settle_test::{fails_at, settled_by_states, verdict_of};
+use settle_test::{failing_row, settled_by_states, verdict_of};
 use std::alloc::{AllocError, Global};
 use std::thread::Threads;
 use worker_pass::{Scratch, Worker, crew, sweep};
+
+/// How many rows are looked at from the row that failed last on, before all are.
+const ROWS_AT_ONCE: u32 = 128;
 
 /// A board with its owner and workers, and all the room that sweeps want.
 #[derive(Drop)]
@@ -94,7 +97,7 @@ impl<'g> Sweeper<'g> {
     }
 
     /// The verdict of the settling test where the table is supported, and none where a row fails. The row that failed
-    /// last is looked at first.
+    /// last is looked at first, with some behind it.
     pub(crate) fn settling<R: Threads + Sync>(
         &mut self,
         rt: &R,
@@ -110,7 +113,16 @@ impl<'g> Sweeper<'g> {
     {
         let p = self.board.problem();
         let levels = &self.scratch.levels;
-        if fails_at(p, levels, slack, &mut self.prepared, self.failed) {
+        let found = failing_row(
+            p,
+            levels,
+            slack,
+            &mut self.prepared,
+            self.failed,
+            ROWS_AT_ONCE,
+        );
+        if let Some(row) = found {
+            self.failed = row;
             return Ok(None);
         }
         let verdict = self.verdict(rt, alloc, slack)?;
