@@ -1,11 +1,14 @@
 -- Rows that were loaded, one after the other.
-use Rattle.std.proofs.Common.{◌≡◌, ◌≢◌, inl, inr, ⊎_elim, ℕ, zero, suc, replicate, ◌+◌, ◌*◌, ◌<◌, length, true, false, Bool, List, set, get_or, refl, sym, ap, subst, ◌∙◌}
+use Rattle.std.proofs.Common.{◌≡◌, ◌≢◌, inl, inr, ⊎_elim, ℕ, zero, suc, replicate, ◌+◌, ◌*◌, ◌/◌, ◌<◌, length, true, false, Bool, List, Option, Some, None, set, get_or, refl, sym, ap, subst, ◌∙◌}
 use Rattle.std.proofs.lemmas.Bool.{cases_eq, false≢true}
 use Rattle.std.proofs.lemmas.List.{get_or-set_same, get_or-set_other}
 use Rattle.level_table.specs.declared.level.Level.{Level}
-use Rattle.level_table.specs.Levels.{Table, level_at}
+use Rattle.level_table.specs.Levels.{Table, IsNumber, level_at}
+use Rattle.std.specs.Prelude.{IfSome}
 use Rattle.schedule_core.specs.Frame.{Frame, IsFallen, with_level}
-use Rattle.worker_pass.specs.Scratches.{HoldsMarked, HoldsState, IsLoaded}
+use Rattle.game_model.specs.Game.{successor}
+use Rattle.worker_pass.specs.Scratches.{HoldsAfter, HoldsMarked, HoldsState, IsLoaded}
+use Rattle.worker_pass.specs.Updates.{FollowsRow}
 use Rattle.level_board.proofs.Moments.{fallen_trans}
 use Rattle.worker_pass.proofs.Falling.{fallen_self}
 
@@ -48,6 +51,23 @@ state_held f v v' t t' s loaded holds k dir = loaded.held (s * f.start.direction
 
 pub marks_held : (f : Frame) (v v' t t' : Table) (marks : List Bool) → IsLoaded v v' t t' → HoldsMarked f t v marks → HoldsMarked f t' v' marks
 marks_held f v v' t t' marks loaded holds s marked = state_held f v v' t t' s loaded (holds s marked)
+
+pub after_held : (f : Frame) (v v' t t' : Table) (s : ℕ) → IsLoaded v v' t t' → HoldsAfter f t v s → HoldsAfter f t' v' s
+after_held f v v' t t' s loaded holds a profile = state_held f v v' t t' (successor f.problem.game s a) loaded (holds a profile)
+
+-- all rows that follow are held once the row itself is
+pub all_held : (f : Frame) (v v' t t' : Table) (row : ℕ) → IsLoaded v v' t t' → level_at t' row ≡ level_at v' row → ((r : ℕ) → r ≢ row → FollowsRow f row r → level_at t r ≡ level_at v r) → HoldsAfter f t' v' (row / f.start.directions)
+all_held f v v' t t' row loaded here others a profile k dir =
+    let r : ℕ = successor f.problem.game (row / f.start.directions) a * f.start.directions + k in
+    elim (cases_eq r row) [
+      | inl e ↦ subst (λ (n : ℕ). level_at t' n ≡ level_at v' n) (sym e) here
+      | inr ne ↦ loaded.held r (others r ne (a, k, profile, dir, refl))
+    ]
+
+pub held_then : (f : Frame) (v v' t t' : Table) (row : ℕ) (state : Option ℕ) → IfSome state (λ s. (s ≡ row / f.start.directions) × IsNumber (level_at t row)) → IsLoaded v v' t t' → level_at t' row ≡ level_at v' row
+    → (IsNumber (level_at t row) → (r : ℕ) → r ≢ row → FollowsRow f row r → level_at t r ≡ level_at v r) → IfSome state (HoldsAfter f t' v')
+held_then f v v' t t' row None is loaded here others = tt
+held_then f v v' t t' row (Some s) (e, number) loaded here others = subst (HoldsAfter f t' v') (sym e) (all_held f v v' t t' row loaded here (others number))
 
 -- one mark more
 pub marks_more : (f : Frame) (v v' t t' : Table) (marks marks' : List Bool) (s : ℕ) → IsLoaded v v' t t' → marks' ≡ set marks s true → HoldsMarked f t v marks → HoldsState f t' v' s → HoldsMarked f t' v' marks'

@@ -1,5 +1,5 @@
 -- What a worker does in a sweep.
-use Rattle.std.specs.Prelude.{◌≡◌, ℕ, ◌<◌, List, length, slice_index_or, true, false}
+use Rattle.std.specs.Prelude.{◌≡◌, ℕ, ◌<◌, All, List, length, slice_index_or, true, false}
 use Rattle.level_table.specs.Levels.{Levels, IsBelow, levels_in}
 use Rattle.level_board.specs.Board.{BoardId}
 use Rattle.schedule_core.specs.Frame.{Frame, IsFallen, rows_of}
@@ -29,3 +29,9 @@ Marks f above w = (r : ℕ) → r < rows_of f → IsMarked w r → IsPassedRow f
 pub record Did (f : Frame) (w w' : Worker) : Type 0 where
   pub fallen : IsFallen w.pass.seen w'.pass.seen
   pub marks : (above : Levels) → IsBelow f.problem (levels_in w.pass.seen) above → Marks f above w'
+
+-- what each worker did
+pub record HaveWorked (b : BoardId) (ws ws' : List Worker) : Type 0 where
+  pub len : length ws' ≡ length ws
+  pub workers : All (λ w. IsWorkerOf b w) ws'
+  pub did : (i : ℕ) (d : Worker) → i < length ws → Did b.frame (slice_index_or ws i d) (slice_index_or ws' i d)

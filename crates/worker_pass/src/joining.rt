@@ -61,7 +61,7 @@ fn update_unmarked(
     board.rules();
     pass.rules();
     if !is_marked(workers, row) {
-        take_down(board, pass, scratch, row);
+        take_down(board, pass, scratch, row, None);
     }
 }
 

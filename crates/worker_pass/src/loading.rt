@@ -1,6 +1,6 @@
 //! What a pass loads goes into its scratch.
 
-ghost use Rattle.std.specs.Prelude.{◌≡◌, ◌≢◌, ℕ, ◌/◌, ◌%◌, ◌<◌, true, slice_index_or, false};
+ghost use Rattle.std.specs.Prelude.{◌≡◌, ◌≢◌, ℕ, ◌/◌, ◌%◌, ◌<◌, true, slice_index_or, false, IfSome};
 ghost use Rattle.game_model.specs.Game.{states};
 ghost use Rattle.level_table.specs.declared.level.Level.TheVariants.{Empty};
 ghost use Rattle.level_table.specs.Levels.{IsNumber, IsRow, level_at};
@@ -36,7 +36,7 @@ pub(crate) fn place_of(board: &Board<'_>, row: u32) -> Place
 }
 
 /// Loads a row.
-fn load_row(board: &Board<'_>, pass: &mut Pass, scratch: &mut Scratch, row: u32) -> Level
+pub(crate) fn load_row(board: &Board<'_>, pass: &mut Pass, scratch: &mut Scratch, row: u32) -> Level
     requires board { pass.old.board ≡ board.now }
     requires scratch { IsScratch board.now.frame.problem scratch.old }
     requires row { row < rows_of board.now.frame }
@@ -142,11 +142,19 @@ fn load_after(board: &Board<'_>, pass: &mut Pass, scratch: &mut Scratch, s: u32,
     }
 }
 
-/// Loads a row, and unless it is Empty all other rows of the states that follow its state. Answers the row's level.
-pub(crate) fn load_for(board: &Board<'_>, pass: &mut Pass, scratch: &mut Scratch, row: u32) -> Level
+/// Loads a row, and unless it is Empty all other rows of the states that follow its state, which may be left out where
+/// they are held for this state. Answers the row's level.
+pub(crate) fn load_for(
+    board: &Board<'_>,
+    pass: &mut Pass,
+    scratch: &mut Scratch,
+    row: u32,
+    held: Option<u32>,
+) -> Level
     requires board { pass.old.board ≡ board.now }
     requires scratch { IsScratch board.now.frame.problem scratch.old }
     requires row { row < rows_of board.now.frame }
+    requires held { IfSome held (HoldsAfter board.now.frame scratch.old.levels pass.old.seen) }
     ensures board { pass.new.board ≡ board.now }
     ensures scratch { IsScratch board.now.frame.problem scratch.new }
     ensures loaded { IsLoaded pass.old.seen pass.new.seen scratch.old.levels scratch.new.levels }
@@ -158,7 +166,9 @@ pub(crate) fn load_for(board: &Board<'_>, pass: &mut Pass, scratch: &mut Scratch
     let level = load_row(board, pass, scratch, row);
     if level != Level::Empty {
         let place = place_of(board, row);
-        load_after(board, pass, scratch, place.state, row);
+        if held != Some(place.state) {
+            load_after(board, pass, scratch, place.state, row);
+        }
     }
     level
 }

@@ -1,6 +1,6 @@
 //! One update of a row.
 
-ghost use Rattle.std.specs.Prelude.{◌≡◌, ◌/◌, ◌<◌};
+ghost use Rattle.std.specs.Prelude.{◌≡◌, ◌/◌, ◌<◌, IfSome};
 ghost use Rattle.level_table.specs.declared.level.Level.TheVariants.{At};
 ghost use Rattle.level_table.specs.Levels.{Levels, IsBelow, IsNumber, level_at, levels_in};
 ghost use Rattle.schedule_core.specs.Frame.{rows_of};
@@ -35,7 +35,7 @@ pub fn update(board: &Board<'_>, pass: &mut Pass, scratch: &mut Scratch, row: u3
     ensures scratch { IsScratch board.now.frame.problem scratch.new }
     ensures updated { IsUpdated board.now.frame pass.old.seen pass.new.seen scratch.new.levels row result }
 {
-    match load_for(board, pass, scratch, row) {
+    match load_for(board, pass, scratch, row, None) {
         Level::Empty => UpdateNote::WasEmpty,
         Level::At(_) => lower_to_row_level(board, pass, scratch, row),
     }
@@ -72,18 +72,30 @@ fn lower_to_row_level(
 }
 
 /// The same update, but the row level is only looked for as far as it is below what was loaded. So it is lowered just
-/// where that is lower.
-pub(crate) fn take_down(board: &Board<'_>, pass: &mut Pass, scratch: &mut Scratch, row: u32)
+/// where that is lower. The rows that follow needn't be loaded where they are held for the row's state. Answers this
+/// state, unless the row is Empty: all rows that follow it are held then, but for the row.
+pub(crate) fn take_down(
+    board: &Board<'_>,
+    pass: &mut Pass,
+    scratch: &mut Scratch,
+    row: u32,
+    held: Option<u32>,
+) -> Option<u32>
     requires board { pass.old.board ≡ board.now }
     requires scratch { IsScratch board.now.frame.problem scratch.old }
     requires row { row < rows_of board.now.frame }
+    requires held { IfSome held (HoldsAfter board.now.frame scratch.old.levels pass.old.seen) }
     ensures board { pass.new.board ≡ board.now }
     ensures scratch { IsScratch board.now.frame.problem scratch.new }
     ensures updated { (note : UpdateNote) × IsUpdated board.now.frame pass.old.seen pass.new.seen scratch.new.levels row note }
+    ensures held { IfSome result (λ s. (s ≡ row / board.now.frame.start.directions) × IsNumber (level_at scratch.new.levels row)) }
 {
-    match load_for(board, pass, scratch, row) {
-        Level::Empty => {}
-        Level::At(level) => lower_to_less(board, pass, scratch, row, level),
+    match load_for(board, pass, scratch, row, held) {
+        Level::Empty => None,
+        Level::At(level) => {
+            lower_to_less(board, pass, scratch, row, level);
+            Some(place_of(board, row).state)
+        }
     }
 }
 
